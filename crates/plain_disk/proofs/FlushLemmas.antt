@@ -7,20 +7,23 @@ use Rattle.lsvd_base.specs.declared.entry.Entry.{Entry}
 use Rattle.lsvd_base.specs.declared.entry.Entry.TheVariants as entries
 use Rattle.lsvd_base.specs.Limits.{may_transfer}
 use Rattle.lsvd_device.specs.Calls.{Fuse, passes, fuse_after}
-use Rattle.object_stream.specs.declared.object.Content.TheVariants.{Data}
+use Rattle.object_stream.specs.declared.object.Content.TheVariants.{Data, Checkpoint}
+use Rattle.object_stream.specs.Stream.{end_at, last_number}
 use Rattle.upload_window.specs.Window.{entered}
 use Rattle.plain_disk.specs.declared.log.PlainCommit.{PlainCommit}
 use Rattle.plain_disk.specs.declared.cache.PendingWrite.{PendingWrite}
 use Rattle.plain_disk.specs.declared.cache.PendingWrite.TheVariants.{Body, ClosedGate, OpenedGate}
 use Rattle.plain_disk.specs.declared.event.PlainEvent.{PlainEvent}
 use Rattle.plain_disk.specs.declared.event.PlainEvent.TheVariants.{Write, Zero, Flush, Look, Release, Seal, TakeJob, JobDone}
-use Rattle.plain_disk.specs.declared.event.PlainEvent.TheVariants.{JobFailed, Status}
+use Rattle.plain_disk.specs.declared.event.PlainEvent.TheVariants.{JobFailed, SealCheckpoint, TakeRemove}
+use Rattle.plain_disk.specs.declared.event.PlainEvent.TheVariants.{RemoveDone, RemoveFailed, Status}
 use Rattle.plain_disk.specs.declared.event.PlainReply.TheVariants as replies
 use Rattle.plain_disk.specs.Log.{PlainLog, with_record, commit_from, with_commit}
 use Rattle.plain_disk.specs.Cache.{PlainCache, after_reads, after_writes, writes_of, passes_entry, after_sync_of}
 use Rattle.plain_disk.specs.Cache.{after_first_half, after_second_half, after_finishing, commit_calls_after, passes_commit}
 use Rattle.plain_disk.specs.Cache.{after_halves, cache_after_commit}
-use Rattle.plain_disk.specs.State.{PlainState, history_length, frontier_end}
+use Rattle.plain_disk.specs.State.{PlainState, stream_in, history_length, frontier_end}
+use Rattle.plain_disk.specs.Removals.{to_remove, with_removal, is_out}
 use Rattle.plain_disk.specs.Entries.{batch_refusal, commits_for_room, cache_for, comes_to_log, cache_after}
 use Rattle.plain_disk.specs.Reads.{look_calls, passes_look, objects_read, are_pinned, without_pins}
 use Rattle.plain_disk.specs.Objects.{is_busy, has_unsealed, end_of_next}
@@ -197,6 +200,11 @@ entering_goes_on : (state : PlainState) (entry : Entry) (is_taken : Bool) → Is
     })
 entering_goes_on state entry is_taken h = (entering_has state entry h, taken_or_not state.entries entry is_taken)
 
+removing_goes_on : (state : PlainState) (out lowest : Option ℕ) → GoesOn state (with_removal out lowest state)
+removing_goes_on state None None = stays state
+removing_goes_on state None (Some number) = stays state
+removing_goes_on state (Some other) lowest = stays state
+
 goes_on : (state : PlainState) (event : PlainEvent) → IsPlainVolume state → GoesOn state (plain_after event state)
 goes_on state (Write lba body) h =
     let entry : Entry = entries.Write lba body in
@@ -225,6 +233,20 @@ goes_on state Seal h =
 goes_on state TakeJob h = stays state
 goes_on state (JobDone job) h = stays state
 goes_on state (JobFailed job) h = stays state
+goes_on state SealCheckpoint h =
+    either_goes_on state (is_busy state) state (record state {
+      objects =
+          state.objects
+          ++ record { content = Checkpoint; end = end_at (stream_in state) (last_number (stream_in state)) } ∷ [];
+      window = entered (state.window.last + 1) true state.window;
+    })
+    (stays state) (stays state)
+goes_on state TakeRemove h = removing_goes_on state state.removal (to_remove state)
+goes_on state (RemoveDone number) h =
+    either_goes_on state (is_out number state.removal)
+    (record state { removed = state.removed ++ number ∷ []; removal = None }) state (stays state) (stays state)
+goes_on state (RemoveFailed number) h =
+    either_goes_on state (is_out number state.removal) (record state { removal = None }) state (stays state) (stays state)
 goes_on state Status h = stays state
 
 pub events_keep_committed : EventsKeepCommitted

@@ -1,5 +1,6 @@
 -- Entries of a plain volume may be folded before an event or after it.
-use Rattle.std.proofs.Common.{arith, ℕ, ◌+◌, ◌-◌, ◌≤◌, ◌≡◌, Bool, true, false, cond, not, ◌&&◌, eqb, Option, is_some, List, []}
+use Rattle.std.proofs.Common.{arith, ℕ, ◌+◌, ◌-◌, ◌≤◌, ◌≡◌, Bool, true, false, cond, not, ◌&&◌, eqb, Option, Some, None, is_some}
+use Rattle.std.proofs.Common.{List, []}
 use Rattle.std.proofs.Common.{◌∷◌, ◌++◌, map, length, take, drop, refl, sym, ◌∙◌, ap}
 use Rattle.std.proofs.lemmas.List.{take-append-le, drop-append-le}
 use Rattle.std.specs.List.{range_with_len}
@@ -8,7 +9,7 @@ use Rattle.lsvd_base.specs.declared.entry.Entry.TheVariants as entries
 use Rattle.lsvd_base.specs.Image.{Image, after}
 use Rattle.lsvd_base.specs.Limits.{may_transfer}
 use Rattle.lsvd_device.specs.Calls.{passes}
-use Rattle.object_stream.specs.declared.object.Content.TheVariants.{Data}
+use Rattle.object_stream.specs.declared.object.Content.TheVariants.{Data, Checkpoint}
 use Rattle.object_stream.specs.declared.object.StreamObject.{StreamObject}
 use Rattle.object_stream.specs.declared.owner.Owner.{Owner}
 use Rattle.object_stream.specs.Stream.{Owners, after_objects, end_after, end_at, last_number}
@@ -16,17 +17,22 @@ use Rattle.object_stream.proofs.StreamLemmas.{follow_first}
 use Rattle.upload_window.specs.Window.{WindowState, entered}
 use Rattle.plain_disk.specs.declared.event.PlainEvent.{PlainEvent}
 use Rattle.plain_disk.specs.declared.event.PlainEvent.TheVariants.{Write, Zero, Flush, Look, Release, Seal, TakeJob, JobDone}
-use Rattle.plain_disk.specs.declared.event.PlainEvent.TheVariants.{JobFailed, Status}
+use Rattle.plain_disk.specs.declared.event.PlainEvent.TheVariants.{JobFailed, SealCheckpoint, TakeRemove}
+use Rattle.plain_disk.specs.declared.event.PlainEvent.TheVariants.{RemoveDone, RemoveFailed, Status}
 use Rattle.plain_disk.specs.Writers.{read_calls}
 use Rattle.plain_disk.specs.Cache.{PlainCache, after_reads, passes_entry, cache_after_entry, cache_after_commit}
-use Rattle.plain_disk.specs.State.{PlainState, stream_in, frontier_end, unsealed_entries, folded_to}
+use Rattle.plain_disk.specs.State.{PlainState, PlainCheckpoint, stream_in, frontier_end, unsealed_entries, folded_to}
+use Rattle.plain_disk.specs.Checkpoints.{checkpoint_at, is_started_checkpoint}
+use Rattle.plain_disk.specs.Removals.{to_remove, with_removal, is_out}
 use Rattle.plain_disk.specs.Entries.{has_room_for, cache_for, comes_to_log, cache_after, after_entering}
 use Rattle.plain_disk.specs.Reads.{objects_read, look_calls, passes_look, after_look, are_pinned, without_pins}
-use Rattle.plain_disk.specs.Objects.{sealed_count, is_busy, has_unsealed, end_of_next, after_seal}
+use Rattle.plain_disk.specs.Objects.{sealed_count, is_busy, has_unsealed, end_of_next, after_seal, after_seal_checkpoint}
+use Rattle.plain_disk.specs.Objects.{after_done}
 use Rattle.plain_disk.specs.Step.{plain_after}
 use Rattle.plain_disk.specs.Valid.{FoldingCommutesWithEvents, FoldingCommutesWithStops}
 use Rattle.plain_disk.proofs.FoldLemmas.{MayFold, fold_sealed, fold_from, fold_within, frontier_end_of_fold, logged_of_fold}
 use Rattle.plain_disk.proofs.FoldLemmas.{unsealed_of_fold, last_end_of_fold, owners_of_first}
+use Rattle.plain_disk.proofs.CheckpointLemmas.{at_of_fold, started_is_lowest}
 use Rattle.plain_disk.proofs.FoldReplyLemmas.{by_three, refusal_by, cache_by, made_by, objects_of_fold}
 
 -- the volume that opens after some first objects, where these are its entries, and these the objects after those
@@ -103,6 +109,12 @@ entering_of_fold state number entry h =
     ∙ fold_with state number entry (cache_after state entry)
     (comes_to_log state entry && passes_entry (cache_for state entry) entry) h
 
+-- one of two volumes
+fold_choice : (number : ℕ) (b : Bool) (x y : PlainState)
+    → cond b (folded_to number x) (folded_to number y) ≡ folded_to number (cond b x y)
+fold_choice number true x y = refl
+fold_choice number false x y = refl
+
 -- ---- a read, and a plan that is given back
 
 fold_either : (state : PlainState) (number : ℕ) (b : Bool) (cache : PlainCache) (pins : List ℕ)
@@ -173,6 +185,48 @@ seal_of_fold state number h =
     (entered (state.window.last + 1) false state.window)
     (has_unsealed state && not (is_busy state)) h
 
+-- a checkpoint repeats the last end
+seal_checkpoint_of_fold : (state : PlainState) (number : ℕ) → MayFold state number
+    → after_seal_checkpoint (folded_to number state) ≡ folded_to number (after_seal_checkpoint state)
+seal_checkpoint_of_fold state number h =
+    let folded : PlainState = folded_to number state in
+    let window : WindowState = entered (state.window.last + 1) true state.window in
+    let sealed = λ (end : ℕ). record folded {
+      objects = folded.objects ++ record { content = Checkpoint; end = end } ∷ [];
+      window = window;
+    } in
+    let end = end_at (stream_in state) (last_number (stream_in state)) in
+    let object : StreamObject = record { content = Checkpoint; end = end } in
+    ap (λ (e : ℕ). cond (is_busy state) folded (sealed e)) (last_end_of_fold state number h)
+    ∙ ap (λ (s : PlainState). cond (is_busy state) folded s) (fold_with_object state number object window true h)
+    ∙ fold_choice number (is_busy state) state (record state { objects = state.objects ++ object ∷ []; window = window })
+
+-- ---- a put that is done
+
+done_of_fold : (state : PlainState) (number : ℕ) (job : Option ℕ) → MayFold state number
+    → after_done job (folded_to number state) ≡ folded_to number (after_done job state)
+done_of_fold state number None h = refl
+done_of_fold state number (Some done) h =
+    let test = is_started_checkpoint done state.window.objects in
+    let same : cond test (checkpoint_at done (folded_to number state)) state.checkpoint
+    ≡ cond test (checkpoint_at done state) state.checkpoint =
+    elim test as (λ b. test ≡ b → cond b (checkpoint_at done (folded_to number state)) state.checkpoint
+    ≡ cond b (checkpoint_at done state) state.checkpoint) [
+      | true ↦ λ is.
+          (let lowest = started_is_lowest state done h.valid is in
+          at_of_fold state number done h (omega (arith, lowest.0, h.to)))
+      | false ↦ λ is. refl
+    ] refl in
+    ap (λ (c : PlainCheckpoint). record (folded_to number (after_done (Some done) state)) { checkpoint = c }) same
+
+-- ---- a removal
+
+removing_of_fold : (state : PlainState) (number : ℕ) (out lowest : Option ℕ)
+    → with_removal out lowest (folded_to number state) ≡ folded_to number (with_removal out lowest state)
+removing_of_fold state number None None = refl
+removing_of_fold state number None (Some removed) = refl
+removing_of_fold state number (Some other) lowest = refl
+
 -- ---- each event
 
 event_of_fold : (state : PlainState) (number : ℕ) (event : PlainEvent) → MayFold state number
@@ -187,8 +241,15 @@ event_of_fold state number (Release numbers) h =
     fold_either state number (are_pinned numbers state.pins) state.cache (without_pins numbers state.pins)
 event_of_fold state number Seal h = seal_of_fold state number h
 event_of_fold state number TakeJob h = refl
-event_of_fold state number (JobDone job) h = refl
+event_of_fold state number (JobDone job) h = done_of_fold state number job h
 event_of_fold state number (JobFailed job) h = refl
+event_of_fold state number SealCheckpoint h = seal_checkpoint_of_fold state number h
+event_of_fold state number TakeRemove h = removing_of_fold state number state.removal (to_remove state)
+event_of_fold state number (RemoveDone removed) h =
+    fold_choice number (is_out removed state.removal)
+    (record state { removed = state.removed ++ removed ∷ []; removal = None }) state
+event_of_fold state number (RemoveFailed removed) h =
+    fold_choice number (is_out removed state.removal) (record state { removal = None }) state
 event_of_fold state number Status h = refl
 
 pub folding_commutes_with_events : FoldingCommutesWithEvents

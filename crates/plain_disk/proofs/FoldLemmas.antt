@@ -3,7 +3,8 @@ use Rattle.std.proofs.Common.{arith, ℕ, ◌+◌, ◌-◌, ◌/◌, ◌≤◌, 
 use Rattle.std.proofs.Common.{List, [], ◌∷◌, ◌++◌, map, get_or, length, take, drop, length-drop, refl, sym, ◌∙◌, ap, inl, inr}
 use Rattle.std.proofs.lemmas.Bool.{cases_lt}
 use Rattle.std.proofs.lemmas.Bool.Decides.{nat_tests}
-use Rattle.std.proofs.lemmas.List.{take-append-le, drop-append-le, take-append-drop, drop-drop, get_or_past}
+use Rattle.std.proofs.lemmas.List.{take-append-le, drop-append-le, take-append-drop, drop-drop, get_or_past, length-take}
+use Rattle.std.proofs.lemmas.List.{take-take}
 use Rattle.std.proofs.lemmas.List.Elements.{All-take, All-drop, All-head, All-tail}
 use Rattle.std.proofs.lemmas.List.FromFn.{get_or-map-range_with_len, length-map-range_with_len}
 use Rattle.std.specs.List.{All, range_with_len}
@@ -25,9 +26,10 @@ use Rattle.object_stream.specs.Changes.{entry_change, change_at, sector_of}
 use Rattle.object_stream.specs.Stream.{Owners, owner_by_change, source_in, owner_by_copy, after_object, after_objects, objects_to}
 use Rattle.object_stream.specs.Stream.{owners, end_after, end_at, last_number, EndsFollow}
 use Rattle.object_stream.specs.Laws.{from_object}
-use Rattle.object_stream.proofs.StreamLemmas.{goes_on, end_no_earlier, keeps_owners}
+use Rattle.object_stream.proofs.StreamLemmas.{goes_on, end_no_earlier, follow_first, keeps_owners}
 use Rattle.plain_disk.specs.State.{PlainState, stream_in, history_length, image_now, frontier_of, frontier_end, logged_entries}
 use Rattle.plain_disk.specs.State.{unsealed_entries, owned_after, folded_to}
+use Rattle.plain_disk.specs.Stops.{cut_to_count}
 use Rattle.plain_disk.specs.Valid.{IsPlainVolume}
 use Rattle.plain_disk.proofs.EndLemmas.{ends_grow, frontier_is_sealed, ends_from, ends_within}
 
@@ -87,7 +89,7 @@ none_owns_past state number k h past =
 
 -- ---- the stream from a later object on
 
-owned_at : (state : PlainState) (number : ℕ) → IsPlainVolume state
+pub owned_at : (state : PlainState) (number : ℕ) → IsPlainVolume state
     → (k : ℕ) → get_or (owned_after state.geometry.sectors state number) k None ≡ owners (stream_in state) number k
 owned_at state number h k =
     let all = state.geometry.sectors in
@@ -202,3 +204,24 @@ owners_of_first number end entries more before (object ∷ objects) h within =
     (after_object (number + 1) object.content es before) objects) (take-append-le n entries more inside)
     ∙ owners_of_first (number + 1) object.end (drop n entries) more (after_object (number + 1) object.content (take n entries)
     before) objects h.1 rest
+
+-- a volume that is cut off has the owners after the objects that are left
+pub owners_of_cut : (state : PlainState) (number count to : ℕ) → IsPlainVolume state → number ≤ last_number (stream_in state)
+    → to ≤ number → end_at (stream_in state) number ≤ count
+    → owners (stream_in (cut_to_count number count state)) to ≡ owners (stream_in state) to
+owners_of_cut state number count to h sealed early ends =
+    let m = to - state.number in
+    let q = count - state.end in
+    let all = state.entries in
+    let opening = (stream_in state).opening in
+    let first = take m state.objects in
+    let from = ends_from state number h in
+    let grown = ends_grow (stream_in state) to number h.stream.ends early in
+    let within = ends_within state number h sealed in
+    let long = length-take q all in
+    let inside : end_after state.end first ≤ state.end + length (take q all) = omega arith in
+    ap (λ (f : List StreamObject). after_objects state.number state.end (take q all) opening f)
+    (take-take m (number - state.number) state.objects (omega arith))
+    ∙ sym (owners_of_first state.number state.end (take q all) (drop q all) opening first
+    (follow_first state.end m state.objects h.stream.ends) inside)
+    ∙ ap (λ (es : List Entry). after_objects state.number state.end es opening first) (take-append-drop q all)

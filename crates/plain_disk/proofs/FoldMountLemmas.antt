@@ -7,18 +7,21 @@ use Rattle.lsvd_base.specs.Image.{Image, after}
 use Rattle.object_stream.specs.declared.object.StreamObject.{StreamObject}
 use Rattle.object_stream.specs.declared.owner.Owner.{Owner}
 use Rattle.object_stream.specs.Landed.{Numbers}
-use Rattle.object_stream.specs.Stream.{Owners, after_objects, end_after, end_at}
+use Rattle.object_stream.specs.Stream.{Owners, after_objects, end_after, end_at, last_number}
 use Rattle.object_stream.proofs.StreamLemmas.{follow_first}
 use Rattle.plain_disk.specs.declared.log.PlainCommit.{PlainCommit}
 use Rattle.plain_disk.specs.Log.{mounted_log, empty_from}
 use Rattle.plain_disk.specs.Cache.{PlainCache, cache_with, kept_commit}
-use Rattle.plain_disk.specs.State.{PlainState, stream_in, folded_to}
+use Rattle.plain_disk.specs.State.{PlainState, PlainCheckpoint, stream_in, folded_to}
+use Rattle.plain_disk.specs.Checkpoints.{landed_checkpoint}
+use Rattle.plain_disk.specs.Removals.{absent_of}
 use Rattle.plain_disk.specs.Stops.{landed_after, recovered_number, recovered_end, kept_count, cut_to_count, mounted_kept}
 use Rattle.plain_disk.specs.Stops.{mounted_lost}
 use Rattle.plain_disk.specs.Valid.{MayLand, FoldingCommutesWithMounts}
 use Rattle.plain_disk.proofs.EndLemmas.{ends_grow}
 use Rattle.plain_disk.proofs.StopLemmas.{recovers_frontier}
 use Rattle.plain_disk.proofs.FoldLemmas.{MayFold, fold_from, fold_within, ends_of_fold, last_of_fold, owners_of_first}
+use Rattle.plain_disk.proofs.CheckpointLemmas.{landed_of_fold}
 use Rattle.plain_disk.proofs.FoldReplyLemmas.{by_three}
 use Rattle.plain_disk.proofs.FoldEventLemmas.{opened_by}
 
@@ -29,11 +32,21 @@ part_of_first n m xs h =
     sym (drop-take n (m - n) xs) ∙ ap (λ k. drop n (take k xs)) sum
 
 -- the volume cut off after the object to which its entries are folded
-cut_of_fold : (state : PlainState) (number last count : ℕ) (cache : PlainCache) → MayFold state number
-    → number ≤ last → end_at (stream_in state) number ≤ count
-    → record (cut_to_count last count (folded_to number state)) { cache = cache }
-    ≡ folded_to number (record (cut_to_count last count state) { cache = cache })
-cut_of_fold state number last count cache h above ends_first =
+cut_of_fold : (state : PlainState) (number last count : ℕ) (checkpoint : PlainCheckpoint) (gone : List ℕ) (cache : PlainCache)
+    → MayFold state number → number ≤ last → end_at (stream_in state) number ≤ count
+    → record (cut_to_count last count (folded_to number state)) {
+      checkpoint = checkpoint;
+      removed = gone;
+      given_out = gone;
+      cache = cache;
+    }
+    ≡ folded_to number (record (cut_to_count last count state) {
+      checkpoint = checkpoint;
+      removed = gone;
+      given_out = gone;
+      cache = cache;
+    })
+cut_of_fold state number last count checkpoint gone cache h above ends_first =
     let n = number - state.number in
     let m = last - state.number in
     let first = take n state.objects in
@@ -63,9 +76,22 @@ cut_of_fold state number last count cache h above ends_first =
     ∙ owners_of_first state.number state.end (take q all) (drop q all) (stream_in state).opening first
     (follow_first state.end n state.objects h.valid.stream.ends) inside in
     let owned = ap (λ (f : Owners). map f (range_with_len 0 state.geometry.sectors)) same_owners in
-    let cut : PlainState = record (cut_to_count last count state) { cache = cache } in
-    by_three (λ (o : Image) (w : List (Option Owner)) (e : List Entry). record (cut_to_count last count (folded_to number state))
-    { opening = o; owned = w; entries = e; cache = cache })
+    let cut : PlainState = record (cut_to_count last count state) {
+      checkpoint = checkpoint;
+      removed = gone;
+      given_out = gone;
+      cache = cache;
+    } in
+    let folded : PlainState = cut_to_count last count (folded_to number state) in
+    by_three (λ (o : Image) (w : List (Option Owner)) (e : List Entry). record folded {
+      opening = o;
+      owned = w;
+      entries = e;
+      checkpoint = checkpoint;
+      removed = gone;
+      given_out = gone;
+      cache = cache;
+    })
     _ _ _ _ _ _ opening owned entries
     ∙ ap (λ (r : List StreamObject). opened_by cut number (take q all) first r) objects
     ∙ ap (λ (f : List StreamObject). opened_by cut number (take q all) f (drop n (take m state.objects)))
@@ -73,7 +99,11 @@ cut_of_fold state number last count cache h above ends_first =
 
 module _ (state : PlainState) (number : ℕ) (landed : Numbers) (h : MayFold state number) (may : MayLand state landed) where
   number_of_fold : recovered_number landed (folded_to number state) ≡ recovered_number landed state
-  number_of_fold = ap (λ (last : ℕ). landed_after landed state.checkpoint (last - state.checkpoint)) (last_of_fold state number h)
+  number_of_fold =
+      let at = λ (base last : ℕ). landed_after landed base (last - base) in
+      ap (λ (base : ℕ). at base (last_number (stream_in (folded_to number state))))
+      (ap (λ (c : PlainCheckpoint). c.number) (landed_of_fold state number landed h))
+      ∙ ap (λ (last : ℕ). at (landed_checkpoint landed state).number last) (last_of_fold state number h)
 
   is_recovered : number ≤ recovered_number landed state
   is_recovered = omega (arith, h.to, recovers_frontier state landed h.valid may)
@@ -90,25 +120,40 @@ module _ (state : PlainState) (number : ℕ) (landed : Numbers) (h : MayFold sta
       ≡ folded_to number (mounted_kept landed kept state)
   kept_of_fold kept =
       let found : PlainCommit = kept_commit kept state.cache in
-      let at = λ (last end : ℕ). record (cut_to_count last (max end found.head.seq) (folded_to number state)) {
+      let gone = absent_of landed state.given_out in
+      let at = λ (newest : PlainCheckpoint) (last end : ℕ). record (cut_to_count last (max end found.head.seq)
+      (folded_to number state)) {
+        checkpoint = newest;
+        removed = gone;
+        given_out = gone;
         cache =
             cache_with (mounted_log found end state.cache.log);
       } in
       let from = recovers_from in
-      ap (λ (last : ℕ). at last (recovered_end landed (folded_to number state))) number_of_fold
-      ∙ ap (λ (end : ℕ). at (recovered_number landed state) end) end_of_fold
+      by_three at (landed_checkpoint landed (folded_to number state)) (landed_checkpoint landed state)
+      (recovered_number landed (folded_to number state)) (recovered_number landed state)
+      (recovered_end landed (folded_to number state)) (recovered_end landed state)
+      (landed_of_fold state number landed h) number_of_fold end_of_fold
       ∙ cut_of_fold state number (recovered_number landed state) (kept_count landed found state)
+      (landed_checkpoint landed state) gone
       (cache_with (mounted_log found (recovered_end landed state) state.cache.log)) h is_recovered (omega arith)
 
   lost_of_fold : mounted_lost landed (folded_to number state) ≡ folded_to number (mounted_lost landed state)
   lost_of_fold =
-      let at = λ (last end : ℕ). record (cut_to_count last end (folded_to number state)) {
+      let gone = absent_of landed state.given_out in
+      let at = λ (newest : PlainCheckpoint) (last end : ℕ). record (cut_to_count last end (folded_to number state)) {
+        checkpoint = newest;
+        removed = gone;
+        given_out = gone;
         cache =
             cache_with (empty_from state.cache.log.size end);
       } in
-      ap (λ (last : ℕ). at last (recovered_end landed (folded_to number state))) number_of_fold
-      ∙ ap (λ (end : ℕ). at (recovered_number landed state) end) end_of_fold
+      by_three at (landed_checkpoint landed (folded_to number state)) (landed_checkpoint landed state)
+      (recovered_number landed (folded_to number state)) (recovered_number landed state)
+      (recovered_end landed (folded_to number state)) (recovered_end landed state)
+      (landed_of_fold state number landed h) number_of_fold end_of_fold
       ∙ cut_of_fold state number (recovered_number landed state) (recovered_end landed state)
+      (landed_checkpoint landed state) gone
       (cache_with (empty_from state.cache.log.size (recovered_end landed state))) h is_recovered recovers_from
 
 pub folding_commutes_with_mounts : FoldingCommutesWithMounts

@@ -1,5 +1,6 @@
 -- A plain volume that opens after a later object answers as before.
-use Rattle.std.proofs.Common.{ℕ, ◌+◌, ◌≡◌, Bool, cond, not, ◌&&◌, ◌||◌, nat_lt, eqb, Option, Some, unwrap_or, option_map, List}
+use Rattle.std.proofs.Common.{ℕ, ◌+◌, ◌≡◌, Bool, true, cond, not, ◌&&◌, ◌||◌, nat_lt, eqb, Option, Some, unwrap_or, option_map}
+use Rattle.std.proofs.Common.{List}
 use Rattle.std.proofs.Common.{length, refl, ◌∙◌, ap}
 use Rattle.std.specs.List.{sum_by, filter, list_any, range_with_len}
 use Rattle.lsvd_base.specs.declared.geometry.Geometry.{Geometry}
@@ -14,7 +15,8 @@ use Rattle.log_room.specs.Room.{need, free, record_sectors}
 use Rattle.object_stream.specs.Stream.{Owners, owners, is_own}
 use Rattle.plain_disk.specs.declared.event.PlainEvent.{PlainEvent}
 use Rattle.plain_disk.specs.declared.event.PlainEvent.TheVariants.{Write, Zero, Flush, Look, Release, Seal, TakeJob, JobDone}
-use Rattle.plain_disk.specs.declared.event.PlainEvent.TheVariants.{JobFailed, Status}
+use Rattle.plain_disk.specs.declared.event.PlainEvent.TheVariants.{JobFailed, SealCheckpoint, TakeRemove}
+use Rattle.plain_disk.specs.declared.event.PlainEvent.TheVariants.{RemoveDone, RemoveFailed, Status}
 use Rattle.plain_disk.specs.declared.event.PlainReply.{PlainReply}
 use Rattle.plain_disk.specs.declared.event.PlainReply.TheVariants as replies
 use Rattle.plain_disk.specs.declared.event.PlannedRead.{PlannedRead}
@@ -22,15 +24,18 @@ use Rattle.plain_disk.specs.Sectors.{sectors_at}
 use Rattle.plain_disk.specs.Writers.{covers_sector, read_calls}
 use Rattle.plain_disk.specs.Log.{room_in}
 use Rattle.plain_disk.specs.Cache.{PlainCache, passes_entry, cache_after_commit, passes_commit}
-use Rattle.plain_disk.specs.State.{PlainState, stream_in, history_length, image_now, frontier_of, frontier_end, logged_entries}
+use Rattle.plain_disk.specs.Checkpoints.{sealed_checkpoint}
+use Rattle.plain_disk.specs.State.{PlainState, PlainCheckpoint, stream_in, history_length, image_now, frontier_of, frontier_end}
+use Rattle.plain_disk.specs.State.{logged_entries}
 use Rattle.plain_disk.specs.State.{unsealed_entries, folded_to}
+use Rattle.plain_disk.specs.Objects.{is_busy}
 use Rattle.plain_disk.specs.Entries.{reply_of_full, has_room_for, enter_reply}
 use Rattle.plain_disk.specs.Reads.{objects_read, look_reply}
-use Rattle.plain_disk.specs.Objects.{is_busy}
 use Rattle.plain_disk.specs.Step.{plain_reply}
 use Rattle.plain_disk.specs.Valid.{FoldingChangesNoReply}
 use Rattle.plain_disk.proofs.FoldLemmas.{MayFold, owners_of_fold, frontier_end_of_fold, count_of_fold, logged_of_fold}
 use Rattle.plain_disk.proofs.FoldLemmas.{unsealed_of_fold, image_of_fold}
+use Rattle.plain_disk.proofs.CheckpointLemmas.{landed_of_fold}
 
 -- a value by three others that are the same
 pub by_three : {A B C D : Type 0} (f : A → B → C → D) (a x : A) (b y : B) (c z : C) → a ≡ x → b ≡ y → c ≡ z → f a b c ≡ f x y z
@@ -130,7 +135,14 @@ reply_of_fold state number Seal h =
 reply_of_fold state number TakeJob h = refl
 reply_of_fold state number (JobDone job) h = refl
 reply_of_fold state number (JobFailed job) h = refl
-reply_of_fold state number Status h = ap (λ n. replies.Told n state.window.last (frontier_of state) state.checkpoint)
+reply_of_fold state number SealCheckpoint h = refl
+reply_of_fold state number TakeRemove h = refl
+reply_of_fold state number (RemoveDone removed) h = refl
+reply_of_fold state number (RemoveFailed removed) h = refl
+reply_of_fold state number Status h =
+    ap (λ (c : PlainCheckpoint). replies.Told (history_length (folded_to number state)) state.window.last (frontier_of state)
+    c.number) (landed_of_fold state number (λ n. true) h)
+    ∙ ap (λ n. replies.Told n state.window.last (frontier_of state) (sealed_checkpoint state).number)
     (count_of_fold state number h)
 
 pub folding_changes_no_reply : FoldingChangesNoReply

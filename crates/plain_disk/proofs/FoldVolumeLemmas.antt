@@ -16,12 +16,13 @@ use Rattle.lsvd_base.proofs.ImageLemmas.{Write-ends, Zero-ends}
 use Rattle.lsvd_base.proofs.SectorLemmas.{keeps_count, applies_in_parts}
 use Rattle.object_stream.specs.declared.object.StreamObject.{StreamObject}
 use Rattle.object_stream.specs.declared.owner.Owner.{Owner}
-use Rattle.object_stream.specs.Stream.{Owners, owners, end_after, end_at, EndsFollow}
-use Rattle.plain_disk.specs.State.{PlainState, stream_in, folded_to}
-use Rattle.plain_disk.specs.Valid.{IsPlainLog, IsPlainVolume, FoldingKeepsPlainVolume, FoldsInParts}
-use Rattle.plain_disk.proofs.EndLemmas.{ends_grow}
+use Rattle.object_stream.specs.Stream.{Owners, owners, is_own, end_after, end_at, EndsFollow}
+use Rattle.plain_disk.specs.State.{PlainState, stream_in, frontier_of, folded_to}
+use Rattle.plain_disk.specs.Valid.{IsPlainCheckpoint, IsPlainLog, IsPlainVolume, FoldingKeepsPlainVolume, FoldsInParts}
+use Rattle.plain_disk.proofs.EndLemmas.{ends_grow, frontier_is_sealed}
 use Rattle.plain_disk.proofs.FoldLemmas.{MayFold, owners_of_fold, ends_of_fold, last_of_fold, frontier_end_of_fold, count_of_fold}
-use Rattle.plain_disk.proofs.FoldLemmas.{entries_of_fold, last_end_of_fold, fold_from}
+use Rattle.plain_disk.proofs.FoldLemmas.{entries_of_fold, last_end_of_fold, fold_from, owned_at}
+use Rattle.plain_disk.proofs.CheckpointLemmas.{maps_what_owns}
 use Rattle.plain_disk.proofs.FoldReplyLemmas.{by_three}
 
 -- ---- a folded volume
@@ -48,6 +49,22 @@ follow_rest end zero objects h = h
 follow_rest end (suc n) [] h = tt
 follow_rest end (suc n) (object ∷ objects) h = follow_rest object.end n objects h.1
 
+-- the checkpoint holds what it did, or where the volume opens after it, maps what still owns a sector there
+checkpoint_of_fold : (state : PlainState) (number : ℕ) → MayFold state number
+    → IsPlainCheckpoint (stream_in (folded_to number state)) (frontier_of state) state.given_out state.checkpoint
+checkpoint_of_fold state number h =
+    let is = h.valid.checkpoint in
+    record {
+      numbered = is.numbered;
+      reached = is.reached;
+      holds = λ from k. is.holds (omega (arith, h.from, from)) k
+          ∙ sym (ap (λ (f : Owners). f k) (owners_of_fold state number h state.checkpoint.number from));
+      still = λ before early k first owns. maps_what_owns (stream_in state) (frontier_of state) state.given_out state.checkpoint
+          number early k h.valid.stream is (frontier_is_sealed state h.valid) before first
+          (ap (is_own early) (sym (owned_at state number h.valid k)) ∙ owns);
+      unneeded = is.unneeded;
+    }
+
 fold_is : (state : PlainState) (number : ℕ) → MayFold state number → IsPlainVolume (folded_to number state)
 fold_is state number h =
     let was = h.valid in
@@ -57,8 +74,6 @@ fold_is state number h =
     let within = was.stream.within in
     let last_end = last_end_of_fold state number h in
     let count = count_of_fold state number h in
-    let opened = h.from in
-    let checkpoint = was.checkpoint in
     record {
       limits = was.limits;
       sectors = sectors_after state.geometry state.opening (take n state.entries) (All-take P n state.entries was.in_range)
@@ -72,8 +87,8 @@ fold_is state number h =
       window = was.window;
       last = was.last ∙ sym (last_of_fold state number h);
       opened = h.to;
-      numbered = was.numbered;
-      checkpoint = omega arith;
+      begun = was.begun;
+      checkpoint = checkpoint_of_fold state number h;
       log = subst₂ (λ e c. IsPlainLog e c state.cache.log) (sym (frontier_end_of_fold state number h)) (sym count) was.log;
       size = was.size;
     }

@@ -1,5 +1,7 @@
 pub mod Overlaid
 pub mod EndLemmas
+pub mod CheckpointLemmas
+pub mod FirstLemmas
 pub mod CommitLemmas
 pub mod FlushLemmas
 pub mod StopLemmas

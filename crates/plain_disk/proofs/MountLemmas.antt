@@ -1,8 +1,9 @@
 -- A mount of the plain volume, with its cache or without it, gives a plain volume.
-use Rattle.std.proofs.Common.{arith, ℕ, ◌+◌, ◌-◌, ◌<◌, ◌≤◌, ◌≡◌, Bool, true, None, List, length, take, drop, max, length-drop}
+use Rattle.std.proofs.Common.{arith, ℕ, ◌+◌, ◌-◌, ◌<◌, ◌≤◌, ◌≡◌, Bool, true, not, ◌&&◌, None, List, length, take, drop, max}
+use Rattle.std.proofs.Common.{length-drop}
 use Rattle.std.proofs.Common.{sym, ◌∙◌, ap, subst₂}
 use Rattle.std.proofs.lemmas.List.{length-take, take-take}
-use Rattle.std.proofs.lemmas.List.Elements.{All-nil, All-take}
+use Rattle.std.proofs.lemmas.List.Elements.{All-nil, All-take, All-filter}
 use Rattle.std.proofs.lemmas.List.Sums.{sum_by-take-le}
 use Rattle.std.specs.Prelude.{IsTrue}
 use Rattle.lsvd_base.specs.declared.entry.Entry.{Entry}
@@ -14,12 +15,18 @@ use Rattle.plain_disk.specs.declared.log.PlainCommit.{PlainCommit}
 use Rattle.plain_disk.specs.declared.log.PlainRecord.{PlainRecord}
 use Rattle.plain_disk.specs.Log.{PlainLog, commit_from, records_from, mounted_log, empty_from}
 use Rattle.plain_disk.specs.Cache.{PlainCache, cache_with, kept_commit}
-use Rattle.plain_disk.specs.State.{PlainState, stream_in, history_length, frontier_end}
+use Rattle.plain_disk.specs.State.{PlainState, PlainCheckpoint, stream_in, history_length, frontier_end}
+use Rattle.plain_disk.specs.Checkpoints.{landed_checkpoint}
+use Rattle.plain_disk.specs.Removals.{absent_of}
 use Rattle.plain_disk.specs.Stops.{recovered_number, recovered_end, kept_count, cut_to_count, mounted_kept, mounted_lost}
-use Rattle.plain_disk.specs.Valid.{IsLaterCommit, IsPlainLog, IsPlainVolume, MayLand, MountsKeepPlainVolume, MountsCommitEntries}
+use Rattle.plain_disk.specs.Valid.{IsUnneeded, IsPlainCheckpoint, IsLaterCommit, IsPlainLog, IsPlainVolume, MayLand}
+use Rattle.plain_disk.specs.Valid.{MountsKeepPlainVolume, MountsCommitEntries}
 use Rattle.plain_disk.proofs.EndLemmas.{ends_from}
 use Rattle.plain_disk.proofs.CommitLemmas.{past_count, past_used, left_used}
-use Rattle.plain_disk.proofs.StopLemmas.{kept_is_later, recovers_frontier, recovers_sealed, recovers_end, recovers_within}
+use Rattle.plain_disk.proofs.FoldLemmas.{owners_of_cut}
+use Rattle.plain_disk.proofs.CheckpointLemmas.{same_checkpoint, landed_is}
+use Rattle.plain_disk.proofs.StopLemmas.{kept_is_later, recovers_frontier, recovers_base, recovers_sealed, recovers_end}
+use Rattle.plain_disk.proofs.StopLemmas.{recovers_within}
 
 -- ---- the log
 
@@ -72,12 +79,18 @@ mounted_log_is end seq count log found from h later =
 -- ---- the volume
 
 -- with its objects up to a number, and the entries up to a count that is within them and not before that object's end
-pub cut_is : (state : PlainState) (number count : ℕ) (cache : PlainCache) → IsPlainVolume state
-    → state.number ≤ number → number ≤ last_number (stream_in state)
+pub cut_is : (state : PlainState) (number count : ℕ) (checkpoint : PlainCheckpoint) (gone : List ℕ) (cache : PlainCache)
+    → IsPlainVolume state → state.number ≤ number → number ≤ last_number (stream_in state)
     → end_at (stream_in state) number ≤ count → count ≤ history_length state
+    → IsPlainCheckpoint (stream_in state) number gone checkpoint
     → cache.log.size ≡ state.geometry.log → IsPlainLog (end_at (stream_in state) number) count cache.log
-    → IsPlainVolume (record (cut_to_count number count state) { cache = cache })
-cut_is state number count cache h from sealed ends within size log =
+    → IsPlainVolume (record (cut_to_count number count state) {
+      checkpoint = checkpoint;
+      removed = gone;
+      given_out = gone;
+      cache = cache;
+    })
+cut_is state number count checkpoint gone cache h from sealed ends within newest size log =
     let n = number - state.number in
     let objects = take n state.objects in
     let P : Entry → Type 0 = λ e. is_in_range state.geometry e ≡ true in
@@ -100,10 +113,26 @@ cut_is state number count cache h from sealed ends within size log =
       window = record { order = omega arith; starts = All-nil (λ object. IsTrue object.is_started → IsTrue object.was_started) };
       last = sym last;
       opened = from;
-      numbered = h.numbered;
-      checkpoint = h.checkpoint;
+      begun = All-nil (λ object. IsTrue (object.was_started && object.is_checkpoint) → object.number ≤ number + 1);
+      checkpoint = same_checkpoint (stream_in state) (take (count - state.end) state.entries) objects number number gone
+          checkpoint newest (omega arith) (owners_of_cut state number count checkpoint.number h sealed newest.reached ends);
       log = subst₂ (λ e c. IsPlainLog e c cache.log) (sym end) (sym counted) log;
       size = size;
+    }
+
+-- the newest checkpoint that has landed is acknowledged then, and needs nothing that is gone
+newest_is_found : (state : PlainState) (landed : Numbers) → IsPlainVolume state
+    → IsPlainCheckpoint (stream_in state) (recovered_number landed state) (absent_of landed state.given_out)
+    (landed_checkpoint landed state)
+newest_is_found state landed h =
+    let is = landed_is state landed h in
+    record {
+      numbered = is.numbered;
+      reached = recovers_base state landed;
+      holds = is.holds;
+      still = is.still;
+      unneeded = All-filter (λ number. not (landed number)) (IsUnneeded (landed_checkpoint landed state)) state.given_out
+          is.unneeded;
     }
 
 pub kept_is : (state : PlainState) (landed : Numbers) (kept : List Bool) → IsPlainVolume state → MayLand state landed
@@ -114,10 +143,11 @@ kept_is state landed kept h may =
     let within = recovers_within state landed h in
     let head = later.within.head in
     let frontier = recovers_frontier state landed h may in
-    cut_is state (recovered_number landed state) (kept_count landed found state)
+    cut_is state (recovered_number landed state) (kept_count landed found state) (landed_checkpoint landed state)
+    (absent_of landed state.given_out)
     (cache_with (mounted_log found (recovered_end landed state) state.cache.log)) h (omega (arith, frontier, h.opened))
     (recovers_sealed state landed h)
-    (omega arith) (omega arith) h.size
+    (omega arith) (omega arith) (newest_is_found state landed h) h.size
     (mounted_log_is (frontier_end state) (recovered_end landed state) (history_length state) state.cache.log found
     (recovers_end state landed h may) h.log later)
 
@@ -128,9 +158,10 @@ lost_is state landed h may =
     let size = state.cache.log.size in
     let frontier = recovers_frontier state landed h may in
     let some : 0 < size = omega (arith, h.log.room.head) in
-    cut_is state (recovered_number landed state) end (cache_with (empty_from size end)) h (omega (arith, frontier, h.opened))
+    cut_is state (recovered_number landed state) end (landed_checkpoint landed state) (absent_of landed state.given_out)
+    (cache_with (empty_from size end)) h (omega (arith, frontier, h.opened))
     (recovers_sealed state landed h)
-    (omega arith) (recovers_within state landed h) h.size
+    (omega arith) (recovers_within state landed h) (newest_is_found state landed h) h.size
     (record {
       counted = omega arith;
       room = record { limit = h.log.room.limit; head = some; used = omega arith };

@@ -1,19 +1,29 @@
 -- What a stop of the plain volume keeps, and how far a recovery gets.
-use Rattle.std.proofs.Common.{arith, ℕ, zero, suc, ◌+◌, ◌-◌, ◌<◌, ◌≤◌, ◌≡◌, ◌==◌, Bool, true, false, cond, IsTrue, Option, Some}
-use Rattle.std.proofs.Common.{None, IfSome, List, refl, sym, ◌∙◌, inl, inr}
+use Rattle.std.proofs.Common.{arith, ℕ, zero, suc, ◌+◌, ◌-◌, ◌<◌, ◌≤◌, ◌≡◌, Bool, true, false, cond, IsTrue, Option, Some}
+use Rattle.std.proofs.Common.{◌&&◌, ◌||◌, eqb, None, IfSome, List, [], ◌∷◌, get_or, refl, sym, ◌∙◌, ap, subst, inl, inr}
+use Rattle.std.proofs.Math.Bool.{or-true}
 use Rattle.std.proofs.lemmas.Bool.{cases_lt}
 use Rattle.std.proofs.lemmas.Bool.Decides.{nat_tests}
+use Rattle.std.proofs.lemmas.List.Elements.{All-nil, All-cons, All-weaker}
+use Rattle.std.proofs.lemmas.List.Folds.{list_any_at}
+use Rattle.std.specs.List.{All, list_any}
 use Rattle.object_stream.specs.Landed.{Numbers}
 use Rattle.object_stream.specs.Stream.{last_number}
+use Rattle.upload_window.specs.declared.object.OpenObject.{OpenObject}
+use Rattle.upload_window.specs.Window.{Ascends, has_number}
 use Rattle.upload_window.proofs.Order.{is_frontier}
 use Rattle.plain_disk.specs.declared.log.PlainCommit.{PlainCommit}
 use Rattle.plain_disk.specs.Log.{PlainLog}
 use Rattle.plain_disk.specs.Cache.{PlainCache, commit_or, keeps_opened_gate, kept_commit}
-use Rattle.plain_disk.specs.State.{PlainState, stream_in, history_length, frontier_of, frontier_end}
+use Rattle.plain_disk.specs.State.{PlainState, PlainCheckpoint, stream_in, history_length, frontier_of, frontier_end}
+use Rattle.plain_disk.specs.Checkpoints.{checkpoint_at, newest_landed, landed_checkpoint}
+use Rattle.plain_disk.specs.Removals.{maps, has}
 use Rattle.plain_disk.specs.Stops.{landed_after, recovered_number, recovered_end}
 use Rattle.plain_disk.specs.Valid.{IsLaterCommit, IsPlainLog, IsPlainVolume, MayLand, StopsKeepPlainVolume, StopKeepsAcknowledged}
-use Rattle.plain_disk.specs.Valid.{RecoversBeforeFirstMissing}
+use Rattle.plain_disk.specs.Valid.{is_checkpoint_from, RecoversBeforeFirstMissing, OwnersHaveLanded}
 use Rattle.plain_disk.proofs.EndLemmas.{ends_grow, ends_within, frontier_is_sealed}
+use Rattle.plain_disk.proofs.CheckpointLemmas.{any_tells, both_true, either_true, same_number, all_past, newest_is, landed_is}
+use Rattle.plain_disk.proofs.CheckpointLemmas.{maps_what_owns, landed_from, given_is_unneeded}
 
 -- ---- numbers that have landed
 
@@ -73,23 +83,50 @@ next_has_not landed number (suc count) absent =
 
 -- ---- how far a recovery gets
 
--- each object up to the frontier has landed
+-- no object from the newest acknowledged checkpoint on was given out for removal
+none_given : (state : PlainState) (k : ℕ) → IsPlainVolume state → state.checkpoint.number ≤ k → has state.given_out k ≡ false
+none_given state k h from =
+    elim (has state.given_out k) as (λ b. has state.given_out k ≡ b → b ≡ false) [
+      | true ↦ λ is.
+          (let old = given_is_unneeded state.checkpoint state.given_out k h.checkpoint.unneeded is in
+          absurd (omega (arith, old.before)))
+      | false ↦ λ is. refl
+    ] refl
+
+-- each object from there up to the frontier has landed
 has_landed : (state : PlainState) (landed : Numbers) → IsPlainVolume state → MayLand state landed
-    → (k : ℕ) → 0 < k → k ≤ frontier_of state → IsTrue (landed k)
-has_landed state landed h may k some most =
+    → (k : ℕ) → state.checkpoint.number ≤ k → k ≤ frontier_of state → IsTrue (landed k)
+has_landed state landed h may k from most =
+    let some : 0 < k = omega (arith, h.checkpoint.numbered) in
     may.surely k some ((is_frontier state.window.objects state.window.last h.window.order).reached k some most)
+    (none_given state k h from)
+
+-- the newest checkpoint that has landed is not past the last object
+base_is_sealed : (state : PlainState) (landed : Numbers) → IsPlainVolume state
+    → (landed_checkpoint landed state).number ≤ last_number (stream_in state)
+base_is_sealed state landed h = (landed_is state landed h).reached
 
 -- a recovery gets to the frontier at least, and to the last object at most
 pub recovers_frontier : (state : PlainState) (landed : Numbers) → IsPlainVolume state → MayLand state landed
     → frontier_of state ≤ recovered_number landed state
 recovers_frontier state landed h may =
-    reaches landed state.checkpoint (last_number (stream_in state) - state.checkpoint) (frontier_of state)
-    (λ k above most. has_landed state landed h may k (omega arith) most) (omega (arith, frontier_is_sealed state h))
+    let base = (landed_checkpoint landed state).number in
+    let from = landed_from state landed h in
+    reaches landed base (last_number (stream_in state) - base) (frontier_of state)
+    (λ k above most. has_landed state landed h may k (omega arith) most)
+    (omega (arith, frontier_is_sealed state h))
+
+pub recovers_base : (state : PlainState) (landed : Numbers) → (landed_checkpoint landed state).number
+    ≤ recovered_number landed state
+recovers_base state landed =
+    let base = (landed_checkpoint landed state).number in
+    from_number landed base (last_number (stream_in state) - base)
 
 pub recovers_sealed : (state : PlainState) (landed : Numbers) → IsPlainVolume state
     → recovered_number landed state ≤ last_number (stream_in state)
 recovers_sealed state landed h =
-    omega (arith, up_to_count landed state.checkpoint (last_number (stream_in state) - state.checkpoint), h.checkpoint)
+    let base = (landed_checkpoint landed state).number in
+    omega (arith, up_to_count landed base (last_number (stream_in state) - base), base_is_sealed state landed h)
 
 pub recovers_end : (state : PlainState) (landed : Numbers) → IsPlainVolume state → MayLand state landed
     → frontier_end state ≤ recovered_end landed state
@@ -135,7 +172,7 @@ stops_keep state calls h = record {
   window = h.window;
   last = h.last;
   opened = h.opened;
-  numbered = h.numbered;
+  begun = h.begun;
   checkpoint = h.checkpoint;
   log = h.log;
   size = h.size;
@@ -155,11 +192,76 @@ stop_keeps_acknowledged state landed kept h may =
           (arith, within, count),
     )
 
+-- the newest checkpoint that has landed is one
+base_is_checkpoint : (state : PlainState) (landed : Numbers)
+    → is_checkpoint_from state (landed_checkpoint landed state).number ≡ true
+base_is_checkpoint state landed =
+    let objects = state.window.objects in
+    let own : (n : ℕ) → eqb n n ≡ true = λ n. grind (arith, nat_tests) in
+    newest_is (λ c. is_checkpoint_from state c.number ≡ true) landed state state.checkpoint objects
+    (ap (λ b. b || list_any (λ o. has_number state.checkpoint.number o && o.is_checkpoint) objects)
+    (own state.checkpoint.number))
+    (λ k d inside is.
+    let n = (get_or objects k d).number in
+    let there = list_any_at (λ o. has_number n o && o.is_checkpoint) objects k d inside
+    (ap (λ b. b && (get_or objects k d).is_checkpoint) (own n)
+    ∙ (both_true (get_or objects k d).is_checkpoint (landed n) is).0) in
+    ap (λ b. eqb n state.checkpoint.number || b) there ∙ or-true (eqb n state.checkpoint.number))
+
+base_has_landed : (state : PlainState) (landed : Numbers) → IsPlainVolume state → MayLand state landed
+    → IsTrue (landed (landed_checkpoint landed state).number)
+base_has_landed state landed h may =
+    newest_is (λ c. IsTrue (landed c.number)) landed state state.checkpoint state.window.objects
+    (has_landed state landed h may state.checkpoint.number (omega arith) h.checkpoint.reached)
+    (λ k d inside is. (both_true (get_or state.window.objects k d).is_checkpoint
+    (landed (get_or state.window.objects k d).number) is).1)
+
+-- and no open one that has landed has a greater number
+none_newer : (landed : Numbers) (state : PlainState) (before : PlainCheckpoint) (low last : ℕ) (objects : List OpenObject)
+    → Ascends low objects last
+    → All (λ o. (o.is_checkpoint && landed o.number) ≡ true → o.number ≤ (newest_landed landed state before objects).number)
+    objects
+none_newer landed state before low last [] order =
+    All-nil (λ o. (o.is_checkpoint && landed o.number) ≡ true → o.number ≤ before.number)
+none_newer landed state before low last (object ∷ objects) order =
+    let test = object.is_checkpoint && landed object.number in
+    let here = checkpoint_at object.number state in
+    let next = cond test here before in
+    let itself : object.number ≤ object.number = omega arith in
+    let from : (c : PlainCheckpoint) → object.number ≤ c.number → object.number ≤ (newest_landed landed state c objects).number =
+    λ c is. newest_is (λ later. object.number ≤ later.number) landed state c objects is
+    (All-weaker (λ o. (object.number < o.number) × (o.number ≤ last))
+    (λ o. (o.is_checkpoint && landed o.number) ≡ true → object.number ≤ o.number)
+    (λ o past tested. omega (arith, past.0)) objects (all_past object.number objects last order.1)) in
+    All-cons (λ o. (o.is_checkpoint && landed o.number) ≡ true → o.number ≤ (newest_landed landed state next objects).number)
+    object objects
+    (λ is. from next (subst (λ b. object.number ≤ (cond b here before).number) (sym is) itself))
+    (none_newer landed state next object.number last objects order.1)
+
+newest_of_all : (state : PlainState) (landed : Numbers) (other : ℕ) → IsPlainVolume state
+    → is_checkpoint_from state other ≡ true → landed other ≡ true → other ≤ (landed_checkpoint landed state).number
+newest_of_all state landed other h is there =
+    let objects = state.window.objects in
+    let base = (landed_checkpoint landed state).number in
+    let from = landed_from state landed h in
+    elim (either_true (eqb other state.checkpoint.number)
+    (list_any (λ o. has_number other o && o.is_checkpoint) objects) is) [
+      | inl same ↦ omega (arith, same_number other state.checkpoint.number same)
+      | inr any ↦ any_tells (λ o. has_number other o && o.is_checkpoint)
+          (λ o. (o.is_checkpoint && landed o.number) ≡ true → o.number ≤ base) (other ≤ base) objects any
+          (none_newer landed state state.checkpoint 0 state.window.last objects h.window.order)
+          (λ o tested newest.
+          let both = both_true (has_number other o) o.is_checkpoint tested in
+          let same = same_number o.number other both.0 in
+          let landed_too : landed o.number ≡ true = rw same there in
+          omega (arith, same, newest (rw both.1 landed_too)))
+    ]
+
 pub recovers_before_missing : RecoversBeforeFirstMissing
 recovers_before_missing state landed checkpoint h may is =
-    let from = state.checkpoint in
+    let from = (landed_checkpoint landed state).number in
     let count = last_number (stream_in state) - from in
-    let sealed : from ≤ last_number (stream_in state) = omega (arith, h.checkpoint) in
+    let sealed : from ≤ last_number (stream_in state) = base_is_sealed state landed h in
     let past : landed (from + count + 1) ≡ false =
     elim (landed (from + count + 1)) as (λ b. landed (from + count + 1) ≡ b → b ≡ false) [
       | true ↦ λ there. absurd (may.perhaps (from + count + 1) (omega (arith, h.last)) there)
@@ -168,11 +270,58 @@ recovers_before_missing state landed checkpoint h may is =
     record {
       base = from;
       newest = record {
-        is_checkpoint = (let same : (from == from) ≡ true = grind (arith, nat_tests) in is from ∙ same);
-        has_landed = has_landed state landed h may from h.numbered (omega (arith, h.checkpoint, h.opened));
-        newest = λ other one there. (let same : (other == from) ≡ true = sym (is other) ∙ one in grind (arith, nat_tests));
+        is_checkpoint = is from (landed_from state landed h) ∙ base_is_checkpoint state landed;
+        has_landed = base_has_landed state landed h may;
+        newest = λ other one there. elim (cases_lt other state.checkpoint.number) [
+          | inl before ↦ omega (arith, before, landed_from state landed h)
+          | inr later ↦ newest_of_all state landed other h (sym (is other later) ∙ one) there
+        ];
       };
       above = omega (arith, from_number landed from count);
       absent = next_has_not landed from count past;
       least = λ number above below. have_landed landed from count number above (omega arith);
     }
+
+-- the newest checkpoint that has landed is at most the lowest open object, since its put was begun
+base_is_lowest : (state : PlainState) (landed : Numbers) → IsPlainVolume state → MayLand state landed
+    → (landed_checkpoint landed state).number ≤ frontier_of state + 1
+base_is_lowest state landed h may =
+    newest_is (λ c. c.number ≤ frontier_of state + 1) landed state state.checkpoint state.window.objects
+    (omega (arith, h.checkpoint.reached))
+    (λ k d inside is.
+    let object = get_or state.window.objects k d in
+    let checkpoint = (both_true object.is_checkpoint (landed object.number) is).0 in
+    h.begun k d inside (ap (λ b. b && object.is_checkpoint) (may.begun k d inside is) ∙ checkpoint))
+
+-- what it maps has landed
+mapped_has_landed : (state : PlainState) (landed : Numbers) (number : ℕ) → IsPlainVolume state → MayLand state landed
+    → 0 < number → number < (landed_checkpoint landed state).number
+    → maps (landed_checkpoint landed state) number ≡ true → IsTrue (landed number)
+mapped_has_landed state landed number h may some before mapped =
+    let base = landed_checkpoint landed state in
+    let is = landed_is state landed h in
+    let most : number ≤ frontier_of state = omega (arith, base_is_lowest state landed h may) in
+    may.surely number some ((is_frontier state.window.objects state.window.last h.window.order).reached number some most)
+    (elim (has state.given_out number) as (λ b. has state.given_out number ≡ b → b ≡ false) [
+      | true ↦ λ given.
+          (let old = given_is_unneeded base state.given_out number is.unneeded given in
+          let unmapped = old.unmapped in
+          let bad : ⊥ = cc in absurd bad)
+      | false ↦ λ given. refl
+    ] refl)
+
+pub owners_have_landed : OwnersHaveLanded
+owners_have_landed state landed number k h may some most owns =
+    let base = landed_checkpoint landed state in
+    let from = base.number in
+    let last = last_number (stream_in state) in
+    elim (cases_lt number from) [
+      | inl before ↦
+          mapped_has_landed state landed number h may some before
+          (maps_what_owns (stream_in state) last state.given_out base (recovered_number landed state) number k h.stream
+          (landed_is state landed h) (omega arith) (recovers_base state landed) before owns)
+      | inr later ↦ elim (cases_lt from number) [
+        | inl above ↦ have_landed landed from (last - from) number above most
+        | inr first ↦ (let same : number ≡ from = omega arith in rw same (base_has_landed state landed h may))
+      ]
+    ]

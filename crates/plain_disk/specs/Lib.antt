@@ -4,6 +4,9 @@ pub mod Writers
 pub mod Log
 pub mod Cache
 pub mod State
+pub mod Checkpoints
+pub mod Removals
+pub mod First
 pub mod Reads
 pub mod Entries
 pub mod Objects

@@ -4,14 +4,15 @@ use Rattle.std.specs.Prelude.{length, find, if◌then◌else◌, unwrap_or}
 use Rattle.std.specs.List.{range_with_len}
 use Rattle.lsvd_base.specs.declared.entry.Entry.{Entry}
 use Rattle.batcher.specs.Batch.{fullness_of_first}
-use Rattle.object_stream.specs.declared.object.Content.TheVariants.{Data}
+use Rattle.object_stream.specs.declared.object.Content.TheVariants.{Data, Checkpoint}
 use Rattle.object_stream.specs.Stream.{end_at, last_number}
 use Rattle.upload_window.specs.Window.{WindowState, lowest_ready, is_started, entered, marked, acknowledged, below_open}
 use Rattle.plain_disk.specs.declared.event.PlainReply.{PlainReply}
 use Rattle.plain_disk.specs.declared.event.PlainReply.TheVariants.{Sealed, Taken, Done, Returned, Told, Nothing, Busy}
 use Rattle.plain_disk.specs.State.{PlainState, stream_in, history_length, unsealed_entries, frontier_of}
+use Rattle.plain_disk.specs.Checkpoints.{sealed_checkpoint, checkpoint_after_done}
 
--- ---- a seal
+-- ---- a seal of data
 
 -- how many of some entries the next object takes: the fewest first ones that fill a batch, or all where they do not
 abbrev pub sealed_count : (batch : ℕ) → List Entry → ℕ
@@ -41,6 +42,21 @@ after_seal state =
       window = entered (state.window.last + 1) false state.window;
     }
     else state
+
+-- ---- a seal of a checkpoint, which repeats the end before it
+
+abbrev pub seal_checkpoint_reply : PlainState → PlainReply
+seal_checkpoint_reply state = if is_busy state then Busy else Sealed (state.window.last + 1)
+
+abbrev pub after_seal_checkpoint : PlainState → PlainState
+after_seal_checkpoint state =
+    if is_busy state then state else
+    record state {
+      objects =
+          state.objects
+          ++ record { content = Checkpoint; end = end_at (stream_in state) (last_number (stream_in state)) } ∷ [];
+      window = entered (state.window.last + 1) true state.window;
+    }
 
 -- ---- puts
 
@@ -73,7 +89,10 @@ abbrev pub done_reply : PlainState → Option ℕ → PlainReply
 done_reply state job = if is_under_way job state.window then Done (below_open (window_after_done job state.window)) else Nothing
 
 abbrev pub after_done : Option ℕ → PlainState → PlainState
-after_done job state = record state { window = window_after_done job state.window }
+after_done job state = record state {
+  window = window_after_done job state.window;
+  checkpoint = checkpoint_after_done job state;
+}
 
 -- a put failed, and its object is ready again
 abbrev pub window_after_failed : Option ℕ → WindowState → WindowState
@@ -89,4 +108,4 @@ after_failed job state = record state { window = window_after_failed job state.w
 -- ---- the status
 
 abbrev pub status_reply : PlainState → PlainReply
-status_reply state = Told (history_length state) state.window.last (frontier_of state) state.checkpoint
+status_reply state = Told (history_length state) state.window.last (frontier_of state) (sealed_checkpoint state).number

@@ -11,9 +11,15 @@ use Rattle.upload_window.specs.Window.{WindowState, below_open}
 use Rattle.plain_disk.specs.Log.{empty_from}
 use Rattle.plain_disk.specs.Cache.{PlainCache, cache_with}
 
+-- A checkpoint: its number, and the owners of the volume's sectors that it holds.
+pub record PlainCheckpoint : Type 0 where
+  pub number : ℕ
+  pub owned : List (Option Owner)
+
 -- A volume as lists: the image, the count of entries and the owners of the sectors that it opens with, after the object of a
--- number; the entries and the objects since then; which of the objects are on their way to the store; the newest checkpoint; the
--- objects that plans of reads have pinned; and the cache.
+-- number; the entries and the objects since then; which of the objects are on their way to the store; the newest checkpoint that
+-- is acknowledged; the objects that plans of reads have pinned; those that were removed, those that were ever given out for it,
+-- these among them and any whose removal failed, and the one whose removal is out; and the cache.
 pub record PlainState : Type 0 where
   pub geometry : Geometry
   pub opening : Image
@@ -23,8 +29,11 @@ pub record PlainState : Type 0 where
   pub entries : List Entry
   pub objects : List StreamObject
   pub window : WindowState
-  pub checkpoint : ℕ
+  pub checkpoint : PlainCheckpoint
   pub pins : List ℕ
+  pub removed : List ℕ
+  pub given_out : List ℕ
+  pub removal : Option ℕ
   pub cache : PlainCache
 
 -- a volume that was just created: its one object is a checkpoint of no sectors, and is acknowledged
@@ -38,8 +47,11 @@ created_volume g = record {
   entries = [];
   objects = [];
   window = record { last = 1; objects = [] };
-  checkpoint = 1;
+  checkpoint = record { number = 1; owned = [] };
   pins = [];
+  removed = [];
+  given_out = [];
+  removal = None;
   cache = cache_with (empty_from g.log 0);
 }
 

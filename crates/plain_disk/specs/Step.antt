@@ -3,14 +3,17 @@ use Rattle.std.specs.Prelude.{Bool, true, false}
 use Rattle.lsvd_base.specs.declared.entry.Entry.TheVariants as entries
 use Rattle.plain_disk.specs.declared.event.PlainEvent.{PlainEvent}
 use Rattle.plain_disk.specs.declared.event.PlainEvent.TheVariants.{Write, Zero, Flush, Look, Release, Seal, TakeJob, JobDone}
-use Rattle.plain_disk.specs.declared.event.PlainEvent.TheVariants.{JobFailed, Status}
+use Rattle.plain_disk.specs.declared.event.PlainEvent.TheVariants.{JobFailed, SealCheckpoint, TakeRemove}
+use Rattle.plain_disk.specs.declared.event.PlainEvent.TheVariants.{RemoveDone, RemoveFailed, Status}
 use Rattle.plain_disk.specs.declared.event.PlainReply.{PlainReply}
 use Rattle.plain_disk.specs.declared.event.PlainReply.TheVariants as replies
 use Rattle.plain_disk.specs.State.{PlainState}
 use Rattle.plain_disk.specs.Entries.{enter_reply, after_entering, flush_reply, after_flush}
 use Rattle.plain_disk.specs.Reads.{look_reply, after_look, release_reply, after_plan_release}
 use Rattle.plain_disk.specs.Objects.{seal_reply, after_seal, take_reply, after_take, done_reply, after_done, failed_reply}
-use Rattle.plain_disk.specs.Objects.{after_failed, status_reply}
+use Rattle.plain_disk.specs.Objects.{after_failed, seal_checkpoint_reply, after_seal_checkpoint, status_reply}
+use Rattle.plain_disk.specs.Removals.{take_remove_reply, after_take_remove, remove_done_reply, after_remove_done}
+use Rattle.plain_disk.specs.Removals.{remove_failed_reply, after_remove_failed}
 
 -- what the volume answers to each event
 abbrev pub plain_reply : PlainState → PlainEvent → PlainReply
@@ -23,6 +26,10 @@ plain_reply state Seal = seal_reply state
 plain_reply state TakeJob = take_reply state
 plain_reply state (JobDone job) = done_reply state job
 plain_reply state (JobFailed job) = failed_reply state job
+plain_reply state SealCheckpoint = seal_checkpoint_reply state
+plain_reply state TakeRemove = take_remove_reply state
+plain_reply state (RemoveDone number) = remove_done_reply state number
+plain_reply state (RemoveFailed number) = remove_failed_reply state number
 plain_reply state Status = status_reply state
 
 -- A reply refuses its event by what the volume is, whatever its device does and whatever room its log has: the sectors are not
@@ -46,4 +53,8 @@ plain_after Seal state = after_seal state
 plain_after TakeJob state = after_take state
 plain_after (JobDone job) state = after_done job state
 plain_after (JobFailed job) state = after_failed job state
+plain_after SealCheckpoint state = after_seal_checkpoint state
+plain_after TakeRemove state = after_take_remove state
+plain_after (RemoveDone number) state = after_remove_done number state
+plain_after (RemoveFailed number) state = after_remove_failed number state
 plain_after Status state = state

@@ -1,11 +1,13 @@
 -- Contract: what a stop of the plain volume leaves, and what a mount makes of it.
-use Rattle.std.specs.Prelude.{ℕ, zero, suc, ◌+◌, ◌-◌, Some, Bool, List, [], max, take, if◌then◌else◌}
+use Rattle.std.specs.Prelude.{ℕ, zero, suc, ◌+◌, ◌-◌, Some, None, Bool, List, [], max, take, if◌then◌else◌}
 use Rattle.object_stream.specs.Stream.{end_at, last_number}
 use Rattle.object_stream.specs.Landed.{Numbers}
 use Rattle.plain_disk.specs.declared.log.PlainCommit.{PlainCommit}
 use Rattle.plain_disk.specs.Log.{mounted_log, empty_from}
 use Rattle.plain_disk.specs.Cache.{cache_with, kept_commit}
-use Rattle.plain_disk.specs.State.{PlainState, stream_in}
+use Rattle.plain_disk.specs.State.{PlainState, PlainCheckpoint, stream_in}
+use Rattle.plain_disk.specs.Checkpoints.{landed_checkpoint}
+use Rattle.plain_disk.specs.Removals.{absent_of}
 
 -- the volume whose device passes this many calls more, and fails each later one
 abbrev pub stopping_after_calls : ℕ → PlainState → PlainState
@@ -18,9 +20,10 @@ abbrev pub landed_after : Numbers → (number count : ℕ) → ℕ
 landed_after landed number zero = number
 landed_after landed number (suc count) = if landed (number + 1) then landed_after landed (number + 1) count else number
 
--- the number before the first missing one, above the newest checkpoint
+-- the number before the first missing one, above the newest checkpoint that has landed
 abbrev pub recovered_number : Numbers → PlainState → ℕ
-recovered_number landed state = landed_after landed state.checkpoint (last_number (stream_in state) - state.checkpoint)
+recovered_number landed state =
+    let base : ℕ = (landed_checkpoint landed state).number in landed_after landed base (last_number (stream_in state) - base)
 
 -- that object's end: how many entries a mount without the cache finds
 abbrev pub recovered_end : Numbers → PlainState → ℕ
@@ -39,19 +42,34 @@ cut_to_count number count state = record state {
   objects = take (number - state.number) state.objects;
   window = record { last = number; objects = [] };
   pins = [];
+  removal = None;
 }
+
+-- and with what a mount finds: this checkpoint is the newest one, and these objects are gone, of those that were given out for
+-- removal
+abbrev pub found_with : (number count : ℕ) → PlainCheckpoint → (gone : List ℕ) → PlainState → PlainState
+found_with number count checkpoint gone state = record (cut_to_count number count state) {
+  checkpoint = checkpoint;
+  removed = gone;
+  given_out = gone;
+}
+
+-- what a mount makes of those that have landed
+abbrev pub found_by : Numbers → (count : ℕ) → PlainState → PlainState
+found_by landed count state =
+    found_with (recovered_number landed state) count (landed_checkpoint landed state) (absent_of landed state.given_out) state
 
 -- with the cache: the log goes on after the commit, and a commit is made
 abbrev pub mounted_kept : Numbers → (kept : List Bool) → PlainState → PlainState
 mounted_kept landed kept state =
     let found : PlainCommit = kept_commit kept state.cache in
-    record (cut_to_count (recovered_number landed state) (kept_count landed found state) state) {
+    record (found_by landed (kept_count landed found state) state) {
       cache = cache_with (mounted_log found (recovered_end landed state) state.cache.log);
     }
 
 -- without it, on a new device of the same length
 abbrev pub mounted_lost : Numbers → PlainState → PlainState
 mounted_lost landed state =
-    record (cut_to_count (recovered_number landed state) (recovered_end landed state) state) {
+    record (found_by landed (recovered_end landed state) state) {
       cache = cache_with (empty_from state.cache.log.size (recovered_end landed state));
     }

@@ -1,20 +1,25 @@
 -- Contract: what holds of the plain volume in each state that events, stops and mounts reach, and the laws of it.
-use Rattle.std.specs.Prelude.{◌≡◌, ℕ, ◌+◌, ◌<◌, ◌≤◌, ◌==◌, IfSome, IsTrue, Bool, true, List, ◌++◌, length}
-use Rattle.std.specs.List.{All}
+use Rattle.std.specs.Prelude.{◌≡◌, ℕ, ◌+◌, ◌<◌, ◌≤◌, ◌==◌, IfSome, None, IsTrue, Bool, true, false, ◌&&◌, ◌||◌, List, ◌++◌}
+use Rattle.std.specs.Prelude.{length}
+use Rattle.std.specs.Prelude.{slice_index_or}
+use Rattle.std.specs.List.{All, list_any}
 use Rattle.lsvd_base.specs.declared.geometry.Geometry.{Geometry}
 use Rattle.lsvd_base.specs.declared.entry.Entry.{Entry}
 use Rattle.lsvd_base.specs.Limits.{is_within_limits}
 use Rattle.lsvd_base.specs.Range.{is_in_range}
-use Rattle.object_stream.specs.Stream.{IsStream, last_number}
+use Rattle.object_stream.specs.Stream.{Stream, owners, is_own, IsStream, last_number}
 use Rattle.object_stream.specs.Landed.{Numbers, IsFirstMissing}
-use Rattle.upload_window.specs.Window.{IsWindow, IsAcknowledged}
+use Rattle.upload_window.specs.Window.{WindowState, IsWindow, IsAcknowledged, has_number, below_open}
 use Rattle.log_room.specs.Room.{IsRoom}
 use Rattle.plain_disk.specs.declared.event.PlainEvent.{PlainEvent}
 use Rattle.plain_disk.specs.declared.event.PlainReply.TheVariants.{Flushed}
 use Rattle.plain_disk.specs.declared.log.PlainCommit.{PlainCommit}
 use Rattle.plain_disk.specs.Log.{PlainLog, next_seq, room_in}
 use Rattle.plain_disk.specs.Cache.{kept_commit}
-use Rattle.plain_disk.specs.State.{PlainState, created_volume, stream_in, history_length, frontier_of, frontier_end, folded_to}
+use Rattle.plain_disk.specs.State.{PlainState, PlainCheckpoint, created_volume, stream_in, history_length, frontier_of}
+use Rattle.plain_disk.specs.State.{frontier_end, folded_to}
+use Rattle.plain_disk.specs.Checkpoints.{landed_checkpoint}
+use Rattle.plain_disk.specs.Removals.{maps, has, is_removable}
 use Rattle.plain_disk.specs.Entries.{flush_reply, after_flush}
 use Rattle.plain_disk.specs.Step.{plain_reply, plain_after}
 use Rattle.plain_disk.specs.Stops.{stopping_after_calls, recovered_number, recovered_end, kept_count, mounted_kept, mounted_lost}
@@ -41,6 +46,27 @@ pub record IsPlainLog (end count : ℕ) (log : PlainLog) : Type 0 where
   pub last : IsCommitWithin log.size end count log.last
   pub unfinished : IfSome log.unfinished (IsLaterCommit log.size end count log.last)
 
+-- No mount needs the object of this number where the newest checkpoint is this one: it is before it, and it does not map it.
+pub record IsUnneeded (checkpoint : PlainCheckpoint) (number : ℕ) : Type 0 where
+  pub before : number < checkpoint.number
+  pub unmapped : maps checkpoint number ≡ false
+
+-- The newest acknowledged checkpoint is not past the frontier. It holds the owners after it; of a stream that begins after it, it
+-- maps each object before it that owns a sector still. What was given out for removal it does not need.
+pub record IsPlainCheckpoint (stream : Stream) (frontier : ℕ) (given_out : List ℕ) (checkpoint : PlainCheckpoint) : Type 0 where
+  pub numbered : 0 < checkpoint.number
+  pub reached : checkpoint.number ≤ frontier
+  pub holds : stream.number ≤ checkpoint.number
+      → (k : ℕ) → slice_index_or checkpoint.owned k None ≡ owners stream checkpoint.number k
+  pub still : checkpoint.number ≤ stream.number
+      → (number k : ℕ) → number < checkpoint.number → is_own number (stream.opening k) ≡ true → maps checkpoint number ≡ true
+  pub unneeded : All (IsUnneeded checkpoint) given_out
+
+-- a checkpoint whose put was ever begun has no lower open number
+abbrev pub BeginsAfterLower : WindowState → Type 0
+BeginsAfterLower window =
+    All (λ object. IsTrue (object.was_started && object.is_checkpoint) → object.number ≤ below_open window + 1) window.objects
+
 -- what holds of each plain volume that is reached
 pub record IsPlainVolume (state : PlainState) : Type 0 where
   pub limits : IsTrue (is_within_limits state.geometry)
@@ -51,8 +77,8 @@ pub record IsPlainVolume (state : PlainState) : Type 0 where
   pub window : IsWindow state.window
   pub last : state.window.last ≡ last_number (stream_in state)
   pub opened : state.number ≤ frontier_of state
-  pub numbered : 0 < state.checkpoint
-  pub checkpoint : state.checkpoint ≤ state.number
+  pub begun : BeginsAfterLower state.window
+  pub checkpoint : IsPlainCheckpoint (stream_in state) (frontier_of state) state.given_out state.checkpoint
   pub log : IsPlainLog (frontier_end state) (history_length state) state.cache.log
   pub size : state.cache.log.size ≡ state.geometry.log
 
@@ -64,11 +90,16 @@ CreatedIsPlainVolume = (g : Geometry) → IsTrue (is_within_limits g) → IsPlai
 abbrev pub EventsKeepPlainVolume : Type 0
 EventsKeepPlainVolume = (state : PlainState) (event : PlainEvent) → IsPlainVolume state → IsPlainVolume (plain_after event state)
 
--- A choice of the objects that have landed: each that is acknowledged, and of the others that were sealed, any. That allows more
--- than can be: an object whose put was never begun cannot have landed.
+-- A choice of the objects that have landed and are there: each that is acknowledged and was not given out for removal, and none
+-- that was removed; of the others that were sealed any, but a checkpoint only where its put was ever begun. That allows more than
+-- can be: an object of another kind whose put was never begun cannot have landed either.
 pub record MayLand (state : PlainState) (landed : Numbers) : Type 0 where
-  pub surely : (number : ℕ) → 0 < number → IsAcknowledged state.window number → IsTrue (landed number)
+  pub surely : (number : ℕ) → 0 < number → IsAcknowledged state.window number → has state.given_out number ≡ false
+      → IsTrue (landed number)
+  pub removed : (number : ℕ) → has state.removed number ≡ true → landed number ≡ false
   pub perhaps : (number : ℕ) → state.window.last < number → IsTrue (landed number) → ⊥
+  pub begun : All (λ object. IsTrue (object.is_checkpoint && landed object.number) → IsTrue object.was_started)
+      state.window.objects
 
 abbrev pub StopsKeepPlainVolume : Type 0
 StopsKeepPlainVolume = (state : PlainState) (calls : ℕ) → IsPlainVolume state → IsPlainVolume (stopping_after_calls calls state)
@@ -107,12 +138,44 @@ StopKeepsAcknowledged =
     × (state.cache.log.last.head.seq ≤ kept_count landed (kept_commit kept state.cache) state)
     × (kept_count landed (kept_commit kept state.cache) state ≤ history_length state)
 
--- the number before the first missing one is the one that a recovery gets to, where the newest checkpoint is the only one
+-- the number is that of the newest acknowledged checkpoint, or of one that is open
+abbrev pub is_checkpoint_from : PlainState → Numbers
+is_checkpoint_from state number =
+    (number == state.checkpoint.number)
+    || list_any (λ object. has_number number object && object.is_checkpoint) state.window.objects
+
+-- the number before the first missing one is the one that a recovery gets to, whichever checkpoints there are before the newest
+-- acknowledged one
 abbrev pub RecoversBeforeFirstMissing : Type 0
 RecoversBeforeFirstMissing =
     (state : PlainState) (landed checkpoint : Numbers) → IsPlainVolume state → MayLand state landed
-    → ((number : ℕ) → checkpoint number ≡ (number == state.checkpoint))
+    → ((number : ℕ) → state.checkpoint.number ≤ number → checkpoint number ≡ is_checkpoint_from state number)
     → IsFirstMissing checkpoint landed (recovered_number landed state + 1)
+
+-- ---- what a mount needs
+
+-- The newest checkpoint that has landed is the newest acknowledged one or a later one, which holds the owners after it.
+abbrev pub NewestLandedHoldsOwners : Type 0
+NewestLandedHoldsOwners =
+    (state : PlainState) (landed : Numbers) → IsPlainVolume state
+    → (state.checkpoint.number ≤ (landed_checkpoint landed state).number)
+    × (state.number ≤ (landed_checkpoint landed state).number
+    → (k : ℕ) → slice_index_or (landed_checkpoint landed state).owned k None
+    ≡ owners (stream_in state) (landed_checkpoint landed state).number k)
+
+-- Each object that owns a sector after the objects that a mount finds has landed.
+abbrev pub OwnersHaveLanded : Type 0
+OwnersHaveLanded =
+    (state : PlainState) (landed : Numbers) (number k : ℕ) → IsPlainVolume state → MayLand state landed
+    → 0 < number → number ≤ recovered_number landed state
+    → is_own number (owners (stream_in state) (recovered_number landed state) k) ≡ true → IsTrue (landed number)
+
+-- No mount needs an object that may be removed, or that was ever given out for it, whatever has landed.
+abbrev pub RemovedIsUnneeded : Type 0
+RemovedIsUnneeded =
+    (state : PlainState) (landed : Numbers) (number : ℕ) → IsPlainVolume state
+    → IsTrue (is_removable state number || has state.given_out number)
+    → IsUnneeded (landed_checkpoint landed state) number
 
 -- ---- folding
 

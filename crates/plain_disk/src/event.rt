@@ -24,6 +24,14 @@ pub enum PlainEvent {
     /// A put failed: that of the object with this number; None where its bytes are not those of the sealed
     /// object.
     JobFailed { job: Option<u64> },
+    /// Seals a checkpoint.
+    SealCheckpoint,
+    /// Begins the removal of the lowest object that may be removed.
+    TakeRemove,
+    /// The removal of the object with this number is done.
+    RemoveDone { number: u64 },
+    /// The removal of the object with this number failed.
+    RemoveFailed { number: u64 },
     /// Asks for the counts.
     Status,
 }
@@ -58,8 +66,14 @@ pub enum PlainReply {
     Done(u64),
     /// The object of the put that failed is ready again.
     Returned,
+    /// The removal of the object with this number began.
+    Removing(u64),
+    /// The object is removed.
+    Removed,
+    /// The object of the removal that failed may be removed again.
+    GivenBack,
     /// How many entries the history has, and the numbers of the last object that was sealed, of the frontier,
-    /// and of the newest checkpoint.
+    /// and of the newest checkpoint that was sealed.
     Told {
         writes: u64,
         sealed: u64,
@@ -78,7 +92,7 @@ pub enum PlainReply {
     },
     /// The volume does not take a request for these sectors.
     Range,
-    /// There is nothing to seal, to put, or to give back.
+    /// There is nothing to seal, to put, to remove, or to give back.
     Nothing,
     /// 16 objects are on their way to the store.
     Busy,

@@ -20,5 +20,5 @@ pub use log::{PlainCommit, PlainRecord};
 pub use numbers::ObjectNumbers;
 pub use plain_laws::{
     a_stop_keeps_what_was_acknowledged, each_state_is_a_plain_volume,
-    entries_may_be_folded_at_any_time,
+    entries_may_be_folded_at_any_time, no_mount_needs_what_is_removed,
 };

@@ -2,8 +2,11 @@ ghost use Rattle.plain_disk.specs.Valid.{CreatedIsPlainVolume, EventsKeepCommitt
 ghost use Rattle.plain_disk.specs.Valid.{FlushCommitsEntries, FoldingChangesNoReply};
 ghost use Rattle.plain_disk.specs.Valid.{FoldingCommutesWithEvents, FoldingCommutesWithMounts};
 ghost use Rattle.plain_disk.specs.Valid.{FoldingCommutesWithStops, FoldingKeepsPlainVolume, FoldsInParts};
-ghost use Rattle.plain_disk.specs.Valid.{MountsCommitEntries, MountsKeepPlainVolume, StopsKeepPlainVolume};
-ghost use Rattle.plain_disk.specs.Valid.{StopKeepsAcknowledged, RecoversBeforeFirstMissing};
+ghost use Rattle.plain_disk.specs.Valid.{MountsCommitEntries, MountsKeepPlainVolume, NewestLandedHoldsOwners};
+ghost use Rattle.plain_disk.specs.Valid.{OwnersHaveLanded};
+ghost use Rattle.plain_disk.specs.Valid.{RecoversBeforeFirstMissing, RemovedIsUnneeded};
+ghost use Rattle.plain_disk.specs.Valid.{StopKeepsAcknowledged};
+ghost use Rattle.plain_disk.specs.Valid.{StopsKeepPlainVolume};
 
 /// A law: a flush that is acknowledged commits each entry so far, and so does a mount; no event leaves fewer
 /// committed. A stop keeps what was committed and the objects up to the frontier, and no more than was taken.
@@ -33,4 +36,14 @@ pub fn entries_may_be_folded_at_any_time()
     ensures events { FoldingCommutesWithEvents }
     ensures stops { FoldingCommutesWithStops }
     ensures mounts { FoldingCommutesWithMounts }
+{}
+
+/// A law: whatever has landed, the newest checkpoint that a mount finds is the newest acknowledged one or a
+/// later one, and holds the owners of the volume's sectors. It has a greater number than any object that may
+/// be removed or was given out for removal, and maps none of them. Each object that owns a sector after the
+/// objects that the mount finds has landed.
+pub fn no_mount_needs_what_is_removed()
+    ensures newest { NewestLandedHoldsOwners }
+    ensures removed { RemovedIsUnneeded }
+    ensures there { OwnersHaveLanded }
 {}

@@ -1,6 +1,8 @@
 mod Entering
 mod Followed
 mod LandedNumbers
+mod Newest
+mod Numbers
 mod Pending
 mod PinLists
 mod Ranges

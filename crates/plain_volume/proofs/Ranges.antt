@@ -1,7 +1,8 @@
 -- Numbers of a range one by one: the first of them, and those after it.
 use Rattle.std.proofs.Common.{◌≡◌, ℕ, suc, ◌+◌, ◌-◌, ◌<◌, Bool, true, false, cond, ◌||◌, Some, List, [], ◌∷◌, ◌++◌, sym, ap, ◌∙◌}
-use Rattle.std.proofs.Common.{arith, append_assoc}
+use Rattle.std.proofs.Common.{Option, map, arith, append_assoc}
 use Rattle.std.specs.List.{list_any, find, range_with_len, filter}
+use Rattle.object_stream.specs.declared.owner.Owner.{Owner}
 
 pub first_of_range : (from end : ℕ) → from < end → range_with_len from (end - from) ≡ from ∷ range_with_len (from + 1)
     (end - (from + 1))
@@ -49,3 +50,10 @@ kept_later test found from end inside fails =
     let rest : List ℕ = filter test (range_with_len (from + 1) (end - (from + 1))) in
     ap (λ numbers. found ++ numbers)
     (sym (ap (filter test) (first_of_range from end inside) ∙ ap (λ b. cond b (from ∷ rest) rest) fails))
+
+pub mapped : (f : ℕ → Option Owner) (found : List (Option Owner)) (from end : ℕ) → from < end
+    → (found ++ f from ∷ []) ++ map f (range_with_len (from + 1) (end - (from + 1)))
+    ≡ found ++ map f (range_with_len from (end - from))
+mapped f found from end inside =
+    append_assoc found (f from ∷ []) (map f (range_with_len (from + 1) (end - (from + 1))))
+    ∙ ap (λ owners. found ++ owners) (sym (ap (map f) (first_of_range from end inside)))

@@ -1,6 +1,6 @@
 -- What the program of the plain volume keeps of its fields.
 use Rattle.std.proofs.Common.{◌≡◌, ℕ, zero, suc, ◌+◌, ◌-◌, ◌<◌, ◌≤◌, Bool, true, false, cond, Some, None, unwrap_or, is_some}
-use Rattle.std.proofs.Common.{List, [], ◌∷◌, ◌++◌, length, take, sym, subst, ap, arith, length-append, length-drop}
+use Rattle.std.proofs.Common.{List, [], ◌∷◌, ◌++◌, length, take, sym, subst, arith, length-drop}
 use Rattle.std.specs.List.{All, find, range_with_len}
 use Rattle.std.proofs.lemmas.List.Elements.{All-take, All-append}
 use Rattle.std.proofs.lemmas.Bool.Decides.{nat_tests}
@@ -8,6 +8,7 @@ use Rattle.lsvd_base.specs.declared.entry.Entry.{Entry}
 use Rattle.lsvd_base.specs.declared.geometry.Geometry.{Geometry}
 use Rattle.lsvd_base.specs.Range.{is_in_range}
 use Rattle.object_stream.specs.declared.object.StreamObject.{StreamObject}
+use Rattle.upload_window.specs.declared.object.OpenObject.{OpenObject}
 use Rattle.object_stream.specs.declared.plain_stream.PlainStream.{PlainStream}
 use Rattle.object_stream.specs.Stream.{end_after, end_at, last_number, unsealed}
 use Rattle.object_stream.specs.Plain.{stream_of}
@@ -26,9 +27,10 @@ end_after_fits end [] fits all = fits
 end_after_fits end (object ∷ objects) fits all =
     end_after_fits object.end objects (all 0 object (omega arith)) (λ k d inside. all (suc k) d (omega arith))
 
-pub end_fits : (g : Geometry) (stream : PlainStream) (greatest number : ℕ) → IsPlainFields g stream greatest
+pub end_fits : (g : Geometry) (stream : PlainStream) (greatest checkpoint number : ℕ) (uploads : List OpenObject)
+    → IsPlainFields g stream greatest checkpoint uploads
     → end_at (stream_of stream) number ≤ max_seq
-end_fits g stream greatest number is =
+end_fits g stream greatest checkpoint number uploads is =
     end_after_fits stream.end (take (number - stream.number) stream.objects.items) (omega (arith, is.end))
     (All-take Fits (number - stream.number) stream.objects.items is.ends)
 
@@ -64,19 +66,6 @@ next_end_fits stream batch end count begins fits is counted some =
     let size : length (unsealed (stream_of stream)) ≡ length stream.entries.items - (last - stream.end) =
     length-drop (last - stream.end) stream.entries.items in
     omega (arith, size, begins, fits, is, counted, some, sealed_within batch (unsealed (stream_of stream)))
-
-fits_alone : (object : StreamObject) → object.end ≤ max_seq → All Fits (object ∷ [])
-fits_alone object fits zero d inside = fits
-fits_alone object fits (suc k) d inside = absurd (omega arith)
-
-pub sealed_fields : (g : Geometry) (stream : PlainStream) (greatest : ℕ) (objects : List StreamObject) (object : StreamObject)
-    → IsPlainFields g stream greatest → objects ≡ stream.objects.items ++ object ∷ [] → object.end ≤ max_seq
-    → All Fits objects × (greatest + 1 ≤ 1 + length objects)
-sealed_fields g stream greatest objects object is longer fits = (
-  subst (λ (list : List StreamObject). All Fits list) (sym longer)
-      (All-append Fits stream.objects.items (object ∷ []) is.ends (fits_alone object fits)),
-  omega (arith, is.last, ap length longer, length-append stream.objects.items (object ∷ [])),
-)
 
 -- ---- an entry more
 

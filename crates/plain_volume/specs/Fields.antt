@@ -1,6 +1,6 @@
 -- For this crate's own clauses: what the program of the plain volume keeps of its fields.
 use Rattle.std.specs.Prelude.{◌≡◌, ℕ, ◌+◌, ◌^◌, ◌<◌, ◌≤◌, not, ◌&&◌, IfSome, IsTrue, Option, Some, None, Bool, true}
-use Rattle.std.specs.Prelude.{false, ◌||◌, nat_lt, List, length, if◌then◌else◌}
+use Rattle.std.specs.Prelude.{false, ◌||◌, nat_lt, List, [], ◌∷◌, ◌++◌, length, map, if◌then◌else◌}
 use Rattle.std.specs.List.{All, list_any, range_with_len, filter}
 use Rattle.lsvd_base.specs.declared.geometry.Geometry.{Geometry}
 use Rattle.lsvd_base.specs.declared.entry.Entry.{Entry}
@@ -8,7 +8,12 @@ use Rattle.lsvd_base.specs.Limits.{is_within_limits}
 use Rattle.log_room.specs.Room.{IsRoom, need, free, record_sectors}
 use Rattle.object_stream.specs.declared.plain_stream.PlainStream.{PlainStream}
 use Rattle.plain_disk.specs.declared.log.PlainCommit.{PlainCommit}
+use Rattle.object_stream.specs.declared.object.StreamObject.{StreamObject}
+use Rattle.object_stream.specs.declared.owner.Owner.{Owner}
+use Rattle.object_stream.specs.Landed.{Numbers}
 use Rattle.object_stream.specs.Stream.{Stream, owners, is_own}
+use Rattle.upload_window.specs.declared.object.OpenObject.{OpenObject}
+use Rattle.upload_window.specs.Window.{entered}
 use Rattle.plain_disk.specs.declared.cache.PendingWrite.{PendingWrite}
 use Rattle.plain_disk.specs.declared.cache.PendingWrite.TheVariants.{OpenedGate}
 use Rattle.plain_disk.specs.Log.{PlainLog, room_in}
@@ -18,6 +23,7 @@ use Rattle.plain_disk.specs.declared.event.PlainReply.{PlainReply}
 use Rattle.plain_disk.specs.declared.event.PlainReply.TheVariants.{NoRoom, Fault}
 use Rattle.plain_disk.specs.Cache.{PlainCache, passes_entry, cache_after_entry, passes_commit, cache_after_commit}
 use Rattle.plain_disk.specs.Entries.{has_room_for}
+use Rattle.plain_disk.specs.State.{PlainState, PlainCheckpoint}
 
 -- no number of a list of entries comes near to this, since each entry takes memory
 abbrev pub max_seq : ℕ
@@ -50,14 +56,18 @@ objects_at stream frontier logged lba sectors =
     filter (λ number. list_any (is_read_at stream frontier logged number) (range_with_len lba sectors))
     (range_with_len 1 frontier)
 
--- What the program keeps: the limits of the geometry, entries in range, a stream that begins at object 1, and numbers that fit.
-pub record IsPlainFields (geometry : Geometry) (stream : PlainStream) (greatest : ℕ) : Type 0 where
+-- What the program keeps: the limits of the geometry, entries in range, a stream that begins at object 1, ends that fit, and no
+-- number past the stream's last object.
+pub record IsPlainFields (geometry : Geometry) (stream : PlainStream) (greatest checkpoint : ℕ) (uploads : List OpenObject)
+    : Type 0 where
   pub limits : IsTrue (is_within_limits geometry)
   pub in_range : AllInRange geometry stream.entries.items
   pub number : stream.number ≡ 1
   pub end : stream.end ≡ 0
   pub ends : All (λ object. object.end ≤ max_seq) stream.objects.items
   pub last : greatest ≤ 1 + length stream.objects.items
+  pub newest : checkpoint ≤ 1 + length stream.objects.items
+  pub numbers : All (λ object. object.number ≤ 1 + length stream.objects.items) uploads
 
 -- a commit for room is to be made, where the frontier's end is this seq
 abbrev pub commits_first : PlainCache → (end : ℕ) → Entry → Bool
@@ -84,3 +94,25 @@ abbrev pub cache_with_record : PlainCache → (end : ℕ) → Entry → PlainCac
 cache_with_record cache end entry =
     if (commits_first cache end entry && not (passes_commit cache)) || not (has_room_for (cache_ready cache end entry) entry)
     then cache_ready cache end entry else cache_after_entry entry (cache_ready cache end entry)
+
+-- ---- checkpoints
+
+abbrev pub checkpoint_with : (number : ℕ) → (owned : List (Option Owner)) → PlainCheckpoint
+checkpoint_with number owned = record { number = number; owned = owned }
+
+-- the owners of the first N sectors after the objects of a stream up to a number, as a list
+abbrev pub owned_in : Stream → (sectors number : ℕ) → List (Option Owner)
+owned_in stream sectors number = map (owners stream number) (range_with_len 0 sectors)
+
+-- the number of the last checkpoint of these objects that has landed, or the one before them
+abbrev pub last_landed : Numbers → (before : Option ℕ) → List OpenObject → Option ℕ
+last_landed landed before [] = before
+last_landed landed before (object ∷ objects) =
+    last_landed landed (if object.is_checkpoint && landed object.number then Some object.number else before) objects
+
+-- the volume with an object more, which is on its way
+abbrev pub sealed_with : StreamObject → (is_checkpoint : Bool) → PlainState → PlainState
+sealed_with object is_checkpoint state = record state {
+  objects = state.objects ++ object ∷ [];
+  window = entered (state.window.last + 1) is_checkpoint state.window;
+}

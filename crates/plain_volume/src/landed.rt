@@ -2,6 +2,13 @@ ghost use Rattle.std.specs.Prelude.{◌≡◌, ◌+◌, ◌^◌, ◌<◌, ◌≤
 ghost use Rattle.object_stream.specs.Plain.{numbers_of};
 ghost use Rattle.plain_disk.specs.Stops.{landed_after};
 
+/// Whether the object of this number has landed.
+pub(crate) fn has_landed(landed: &[bool], number: u64) -> bool
+    ensures { result ≡ numbers_of landed.now number }
+{
+    landed.get(number as usize).copied().unwrap_or(false)
+}
+
 /// Of `count` numbers after one the last of those before the first that has not landed. They fit (a
 /// condition).
 pub(crate) fn landed_after(landed: &[bool], number: u64, count: u64) -> u64

@@ -5,12 +5,14 @@
 #![tactic(auto)]
 
 mod cache;
+mod checkpoints;
 mod history;
 mod landed;
 mod log;
 mod pins;
 mod plans;
 mod puts;
+mod removals;
 mod sealing;
 mod volume;
 mod window;

@@ -68,8 +68,8 @@ fn is_sector_read(
     is_own(number, stream.owner(frontier, sector)) && !is_covered(logged, sector)
 }
 
-// Whether the owner is the volume's own object of this number.
-fn is_own(number: u64, owner: Option<Owner>) -> bool
+/// Whether the owner is the volume's own object of this number.
+pub(crate) fn is_own(number: u64, owner: Option<Owner>) -> bool
     ensures { result ≡ is_own number owner }
 {
     match owner {

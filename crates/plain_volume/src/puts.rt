@@ -2,6 +2,7 @@ ghost use Rattle.std.specs.Prelude.{◌≡◌, nat_lt, position};
 ghost use Rattle.std.specs.List.{list_any};
 ghost use Rattle.upload_window.specs.Window.{has_number, is_ready, lowest_ready, is_started, with_started};
 ghost use Rattle.upload_window.specs.Window.{without, below_lowest};
+ghost use Rattle.plain_disk.specs.Checkpoints.{is_started_checkpoint};
 
 use upload_window::OpenObject;
 
@@ -43,6 +44,15 @@ pub(crate) fn is_started(objects: &[OpenObject], number: u64) -> bool
     objects
         .iter()
         .any(|object| object.number == number && object.is_started)
+}
+
+/// Whether the object of this number is a checkpoint whose put is under way.
+pub(crate) fn is_started_checkpoint(objects: &[OpenObject], number: u64) -> bool
+    ensures { result ≡ is_started_checkpoint number objects.now }
+{
+    objects.iter().any(|object| object.number == number
+        && object.is_started
+        && object.is_checkpoint)
 }
 
 // The place of the object of this number.

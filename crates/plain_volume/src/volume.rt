@@ -1,9 +1,10 @@
-ghost use Rattle.std.specs.Prelude.{◌≡◌, ◌≤◌, IsTrue, IfOk, OnOk, OnErr, Some, None, is_some, if◌then◌else◌};
+ghost use Rattle.std.specs.Prelude.{◌≡◌, ◌+◌, ◌≤◌, IsTrue, IfOk, OnOk, OnErr, Some, None, is_some};
+ghost use Rattle.std.specs.Prelude.{if◌then◌else◌};
 ghost use Rattle.lsvd_base.specs.Limits.{is_within_limits, may_transfer};
 ghost use Rattle.log_room.specs.Room.{need, free, record_sectors};
 ghost use Rattle.object_stream.specs.Stream.{end_at, last_number};
 ghost use Rattle.object_stream.specs.Plain.{numbers_of};
-ghost use Rattle.plain_volume.specs.Fields.{max_seq, record_refusal, cache_with_record};
+ghost use Rattle.plain_volume.specs.Fields.{max_seq, record_refusal, cache_with_record, sealed_with};
 ghost use Rattle.plain_disk.specs.State.{created_volume, stream_in, frontier_of, frontier_end};
 ghost use Rattle.plain_disk.specs.State.{history_length, logged_entries};
 ghost use Rattle.plain_disk.specs.Cache.{kept_commit};
@@ -13,18 +14,26 @@ ghost use Rattle.plain_disk.specs.Entries.{has_room_for, enter_reply, after_ente
 ghost use Rattle.plain_disk.specs.Entries.{after_flush, batch_refusal_of};
 ghost use Rattle.plain_disk.specs.Objects.{seal_reply, after_seal, take_reply, after_take, done_reply};
 ghost use Rattle.plain_disk.specs.Objects.{after_done, failed_reply, after_failed, status_reply};
-ghost use Rattle.plain_disk.specs.declared.event.PlainReply.TheVariants.{NoRoom};
+ghost use Rattle.plain_disk.specs.Objects.{seal_checkpoint_reply, after_seal_checkpoint};
+ghost use Rattle.plain_disk.specs.Checkpoints.{checkpoint_at, checkpoint_after_done, landed_checkpoint};
+ghost use Rattle.plain_disk.specs.Checkpoints.{sealed_checkpoint};
+ghost use Rattle.plain_disk.specs.Removals.{is_removable, to_remove, take_remove_reply, after_take_remove};
+ghost use Rattle.plain_disk.specs.Removals.{remove_done_reply, after_remove_done, remove_failed_reply};
+ghost use Rattle.plain_disk.specs.Removals.{after_remove_failed, absent_of};
+ghost use Rattle.plain_disk.specs.declared.event.PlainReply.TheVariants.{NoRoom, Sealed};
 ghost use Rattle.plain_disk.specs.Log.{room_in};
 ghost use Rattle.plain_disk.specs.Step.{plain_reply, plain_after};
 ghost use Rattle.plain_disk.specs.Stops.{stopping_after_calls, recovered_number, recovered_end, kept_count};
-ghost use Rattle.plain_disk.specs.Stops.{cut_to_count, mounted_kept, mounted_lost};
+ghost use Rattle.plain_disk.specs.Stops.{found_with, mounted_kept, mounted_lost};
 
 use crate::cache::CacheDevice;
+use crate::checkpoints::{Checkpoint, last_checkpoint, last_landed};
 use crate::history::{MAX_ENTRIES, count_data_sectors, read_history};
 use crate::landed::landed_after;
 use crate::pins::without_pins;
 use crate::plans::objects_read;
-use crate::puts::{frontier, is_started, lowest_ready, mark, remove};
+use crate::puts::{frontier, is_started, is_started_checkpoint, lowest_ready, mark, remove};
+use crate::removals::{absent_of, has, is_out};
 use crate::sealing::sealed_count;
 use crate::writers::{last_writers, run_count};
 use log_room::record_sectors;
@@ -34,9 +43,6 @@ use plain_disk::{ObjectNumbers, PendingWrite, PlainEvent, PlainReply, PlannedRea
 use std::alloc::{AllocError, Global};
 use std::marker::Model;
 use upload_window::OpenObject;
-
-// The newest checkpoint, which is the volume's first object.
-const CHECKPOINT: u64 = 1;
 
 // The most objects on their way to the store.
 const MAX_OPEN: usize = 16;
@@ -49,7 +55,14 @@ pub struct PlainVolume {
     /// The number of the last object.
     last: u64,
     uploads: Vec<OpenObject>,
+    /// The newest one that is acknowledged.
+    checkpoint: Checkpoint,
     pins: Vec<u64>,
+    removed: Vec<u64>,
+    /// The objects that were ever given out for removal.
+    given_out: Vec<u64>,
+    /// The object whose removal is out.
+    removal: Option<u64>,
     cache: CacheDevice,
 }
 
@@ -69,12 +82,15 @@ impl Model for PlainVolume {
       entries = v.stream.entries.items;
       objects = v.stream.objects.items;
       window = record { last = v.last; objects = v.uploads.items };
-      checkpoint = 1;
+      checkpoint = v.checkpoint;
       pins = v.pins.items;
+      removed = v.removed.items;
+      given_out = v.given_out.items;
+      removal = v.removal;
       cache = v.cache;
     } };
 
-    ghost invariant = { λ v. IsPlainFields v.geometry v.stream v.last };
+    ghost invariant = { λ v. IsPlainFields v.geometry v.stream v.last v.checkpoint.number v.uploads.items };
 }
 
 impl PlainVolume {
@@ -94,7 +110,11 @@ impl PlainVolume {
             },
             last: 1,
             uploads: Vec::new(alloc),
+            checkpoint: Checkpoint::created(alloc),
             pins: Vec::new(alloc),
+            removed: Vec::new(alloc),
+            given_out: Vec::new(alloc),
+            removal: None,
             cache: CacheDevice::empty_from(alloc, geometry.log, 0),
         }
     }
@@ -113,8 +133,12 @@ impl PlainVolume {
             PlainEvent::Release { objects } => self.release(&objects),
             PlainEvent::Seal => self.seal(),
             PlainEvent::TakeJob => Ok(self.take()),
-            PlainEvent::JobDone { job } => Ok(self.done(job)),
+            PlainEvent::JobDone { job } => self.done(job),
             PlainEvent::JobFailed { job } => Ok(self.failed(job)),
+            PlainEvent::SealCheckpoint => self.seal_checkpoint(),
+            PlainEvent::TakeRemove => self.take_remove(),
+            PlainEvent::RemoveDone { number } => self.remove_done(number),
+            PlainEvent::RemoveFailed { number } => Ok(self.remove_failed(number)),
             PlainEvent::Status => Ok(self.status()),
         }
     }
@@ -149,35 +173,39 @@ impl PlainVolume {
 
     /// Stops the machine, of whose objects those have landed whose numbers are the indexes of `true` in
     /// `landed`, and of whose pending writes those are kept that `kept` has `true` for, and mounts the volume
-    /// with its cache: how many entries it has, and the number of the last object that was found.
-    pub fn crash_kept(&mut self, landed: &[bool], kept: &[bool]) -> (u64, u64)
-        ensures count { result.0 ≡ kept_count (numbers_of landed.now)
-            (kept_commit kept.now self.old.cache) self.old }
-        ensures number { result.1 ≡ recovered_number (numbers_of landed.now) self.old }
-        ensures volume { self.new ≡ mounted_kept (numbers_of landed.now) kept.now self.old }
+    /// with its cache: how many entries it has, and the number of the last object that was found. The one
+    /// error is that memory ran out, after which the volume is as before.
+    pub fn crash_kept(&mut self, landed: &[bool], kept: &[bool]) -> Result<(u64, u64), AllocError>
+        ensures count { IfOk result (λ found. found.0 ≡ kept_count (numbers_of landed.now)
+            (kept_commit kept.now self.old.cache) self.old) }
+        ensures number { IfOk result (λ found. found.1 ≡ recovered_number (numbers_of landed.now) self.old) }
+        ensures volume { OnOk result (self.new ≡ mounted_kept (numbers_of landed.now) kept.now self.old) }
+        ensures err { OnErr result (self.new ≡ self.old) }
     {
         let found = self.cache.kept_commit(kept);
         let number = self.recovered_number(landed);
         let end = self.end_at(number);
         let count = end.max(found.head.seq);
-        self.cut_to(number, count);
+        self.cut_to(landed, number, count)?;
         self.cache.mount(found, end);
-        (count, number)
+        Ok((count, number))
     }
 
     /// Stops the machine, of whose objects those have landed whose numbers are the indexes of `true` in
     /// `landed`, and mounts the volume without its cache, on a new device of the same length: how many
-    /// entries it has, and the number of the last object that was found.
-    pub fn crash_lost(&mut self, landed: &[bool]) -> (u64, u64)
-        ensures count { result.0 ≡ recovered_end (numbers_of landed.now) self.old }
-        ensures number { result.1 ≡ recovered_number (numbers_of landed.now) self.old }
-        ensures volume { self.new ≡ mounted_lost (numbers_of landed.now) self.old }
+    /// entries it has, and the number of the last object that was found. The one error is that memory ran
+    /// out, after which the volume is as before.
+    pub fn crash_lost(&mut self, landed: &[bool]) -> Result<(u64, u64), AllocError>
+        ensures count { IfOk result (λ found. found.0 ≡ recovered_end (numbers_of landed.now) self.old) }
+        ensures number { IfOk result (λ found. found.1 ≡ recovered_number (numbers_of landed.now) self.old) }
+        ensures volume { OnOk result (self.new ≡ mounted_lost (numbers_of landed.now) self.old) }
+        ensures err { OnErr result (self.new ≡ self.old) }
     {
         let number = self.recovered_number(landed);
         let end = self.end_at(number);
-        self.cut_to(number, end);
+        self.cut_to(landed, number, end)?;
         self.cache.replace(end);
-        (end, number)
+        Ok((end, number))
     }
 
     // The number of the last object up to the frontier.
@@ -349,16 +377,43 @@ impl PlainVolume {
         }
         let sealed = sealed_count(self.geometry.batch, unsealed);
         let end = self.end_at(self.last_number()) + sealed;
+        let content = Content::Data;
+        self.seal_object(StreamObject { content, end }, false)
+    }
+
+    // Seals a checkpoint, which repeats the end before it, if fewer than 16 objects are open. The one error
+    // is that memory ran out, after which the volume is as before.
+    fn seal_checkpoint(&mut self) -> Result<PlainReply, AllocError>
+        ensures reply { IfOk result (λ reply. reply ≡ seal_checkpoint_reply self.old) }
+        ensures volume { OnOk result (self.new ≡ after_seal_checkpoint self.old) }
+        ensures err { OnErr result (self.new ≡ self.old) }
+    {
+        if self.uploads.len() == MAX_OPEN {
+            return Ok(PlainReply::Busy);
+        }
+        let end = self.end_at(self.last_number());
+        let content = Content::Checkpoint;
+        self.seal_object(StreamObject { content, end }, true)
+    }
+
+    // Seals this object. The one error is that memory ran out, after which the volume is as before.
+    fn seal_object(
+        &mut self,
+        object: StreamObject,
+        is_checkpoint: bool,
+    ) -> Result<PlainReply, AllocError>
+        requires { object.end ≤ max_seq }
+        ensures reply { IfOk result (λ reply. reply ≡ Sealed (self.old.window.last + 1)) }
+        ensures volume { OnOk result (self.new ≡ sealed_with object is_checkpoint self.old) }
+        ensures err { OnErr result (self.new ≡ self.old) }
+    {
         let number = self.last + 1;
         self.stream.objects.reserve(1)?;
         self.uploads.reserve(1)?;
-        self.stream.objects.push_reserved(StreamObject {
-            content: Content::Data,
-            end,
-        });
+        self.stream.objects.push_reserved(object);
         self.uploads.push_reserved(OpenObject {
             number,
-            is_checkpoint: false,
+            is_checkpoint,
             is_started: false,
             was_started: false,
         });
@@ -387,18 +442,41 @@ impl PlainVolume {
         }
     }
 
-    // A put is done.
-    fn done(&mut self, job: Option<u64>) -> PlainReply
-        ensures reply { result ≡ done_reply self.old job }
-        ensures volume { self.new ≡ after_done job self.old }
+    // A put is done. The one error is that memory ran out, after which the volume is as before.
+    fn done(&mut self, job: Option<u64>) -> Result<PlainReply, AllocError>
+        ensures reply { IfOk result (λ reply. reply ≡ done_reply self.old job) }
+        ensures volume { OnOk result (self.new ≡ after_done job self.old) }
+        ensures err { OnErr result (self.new ≡ self.old) }
     {
         match job {
             Some(number) if is_started(self.uploads.as_slice(), number) => {
+                self.checkpoint = self.checkpoint_after_done(number)?;
                 remove(&mut self.uploads, number);
-                PlainReply::Done(self.frontier())
+                Ok(PlainReply::Done(self.frontier()))
             }
-            _ => PlainReply::Nothing,
+            _ => Ok(PlainReply::Nothing),
         }
+    }
+
+    // The newest acknowledged checkpoint once the put of this number is done. The one error is that memory
+    // ran out.
+    fn checkpoint_after_done(&self, number: u64) -> Result<Checkpoint, AllocError>
+        ensures { IfOk result (λ checkpoint. checkpoint ≡ checkpoint_after_done (Some number) self.now) }
+    {
+        if is_started_checkpoint(self.uploads.as_slice(), number) {
+            self.checkpoint_at(number)
+        } else {
+            self.checkpoint.copy()
+        }
+    }
+
+    // The checkpoint of this number. The one error is that memory ran out.
+    fn checkpoint_at(&self, number: u64) -> Result<Checkpoint, AllocError>
+        ensures { IfOk result (λ checkpoint. checkpoint ≡ checkpoint_at number self.now) }
+    {
+        let volume = self;
+        let alloc = *volume.pins.allocator();
+        Checkpoint::at(alloc, &volume.stream, number, volume.geometry.sectors)
     }
 
     // A put failed.
@@ -415,6 +493,73 @@ impl PlainVolume {
         }
     }
 
+    // Whether the object of this number may be removed.
+    fn is_removable(&self, number: u64) -> bool
+        ensures { result ≡ is_removable self.now number }
+    {
+        number < self.checkpoint.number()
+            && !self.checkpoint.maps(number)
+            && !has(self.pins.as_slice(), number)
+            && !has(self.removed.as_slice(), number)
+    }
+
+    // The lowest number that may be removed.
+    fn to_remove(&self) -> Option<u64>
+        ensures { result ≡ to_remove self.now }
+    {
+        for number in 1..self.checkpoint.number() {
+            if self.is_removable(number) {
+                return Some(number);
+            }
+        }
+        None
+    }
+
+    // Begins the removal of the lowest object that may be removed, where none is out. The one error is that
+    // memory ran out, after which the volume is as before.
+    fn take_remove(&mut self) -> Result<PlainReply, AllocError>
+        ensures reply { IfOk result (λ reply. reply ≡ take_remove_reply self.old) }
+        ensures volume { OnOk result (self.new ≡ after_take_remove self.old) }
+        ensures err { OnErr result (self.new ≡ self.old) }
+    {
+        match (self.removal, self.to_remove()) {
+            (None, Some(number)) => {
+                self.given_out.reserve(1)?;
+                self.given_out.push_reserved(number);
+                self.removal = Some(number);
+                Ok(PlainReply::Removing(number))
+            }
+            _ => Ok(PlainReply::Nothing),
+        }
+    }
+
+    // A removal is done. The one error is that memory ran out, after which the volume is as before.
+    fn remove_done(&mut self, number: u64) -> Result<PlainReply, AllocError>
+        ensures reply { IfOk result (λ reply. reply ≡ remove_done_reply self.old number) }
+        ensures volume { OnOk result (self.new ≡ after_remove_done number self.old) }
+        ensures err { OnErr result (self.new ≡ self.old) }
+    {
+        if !is_out(number, self.removal) {
+            return Ok(PlainReply::Nothing);
+        }
+        self.removed.reserve(1)?;
+        self.removed.push_reserved(number);
+        self.removal = None;
+        Ok(PlainReply::Removed)
+    }
+
+    // A removal failed.
+    fn remove_failed(&mut self, number: u64) -> PlainReply
+        ensures reply { result ≡ remove_failed_reply self.old number }
+        ensures volume { self.new ≡ after_remove_failed number self.old }
+    {
+        if !is_out(number, self.removal) {
+            return PlainReply::Nothing;
+        }
+        self.removal = None;
+        PlainReply::GivenBack
+    }
+
     // The counts.
     fn status(&self) -> PlainReply
         ensures { result ≡ status_reply self.now }
@@ -423,33 +568,79 @@ impl PlainVolume {
             writes: self.history_length(),
             sealed: self.last,
             frontier: self.frontier(),
-            checkpoint: CHECKPOINT,
+            checkpoint: self.sealed_number(),
         }
     }
 
-    // The number before the first that has not landed, above the newest checkpoint.
-    fn recovered_number(&self, landed: &[bool]) -> u64
-        ensures number { result ≡ recovered_number (numbers_of landed.now) self.now }
-        ensures first { 1 ≤ result }
-        ensures most { result ≤ last_number (stream_in self.now) }
+    // The number of the newest checkpoint that was sealed.
+    fn sealed_number(&self) -> u64
+        ensures { result ≡ (sealed_checkpoint self.now).number }
     {
-        let last = self.stream.number + self.stream.objects.len() as u64;
-        landed_after(landed, CHECKPOINT, last.saturating_sub(CHECKPOINT))
+        match last_checkpoint(self.uploads.as_slice()) {
+            Some(number) => number,
+            None => self.checkpoint.number(),
+        }
     }
 
-    // Keeps the first `count` entries, and the objects up to a number, which are acknowledged.
-    fn cut_to(&mut self, number: u64, count: u64)
-        requires first { 1 ≤ number }
-        requires most { number ≤ last_number (stream_in self.old) }
-        ensures { self.new ≡ cut_to_count number count self.old }
+    // The number of the newest checkpoint that has landed.
+    fn landed_number(&self, landed: &[bool]) -> u64
+        ensures { result ≡ (landed_checkpoint (numbers_of landed.now) self.now).number }
     {
+        match last_landed(landed, self.uploads.as_slice()) {
+            Some(number) => number,
+            None => self.checkpoint.number(),
+        }
+    }
+
+    // The newest checkpoint that has landed. The one error is that memory ran out.
+    fn landed_checkpoint(&self, landed: &[bool]) -> Result<Checkpoint, AllocError>
+        ensures { IfOk result (λ checkpoint. checkpoint ≡ landed_checkpoint (numbers_of landed.now)
+            self.now) }
+    {
+        match last_landed(landed, self.uploads.as_slice()) {
+            Some(number) => self.checkpoint_at(number),
+            None => self.checkpoint.copy(),
+        }
+    }
+
+    // The number before the first that has not landed, above the newest checkpoint that has.
+    fn recovered_number(&self, landed: &[bool]) -> u64
+        ensures number { result ≡ recovered_number (numbers_of landed.now) self.now }
+        ensures first { (landed_checkpoint (numbers_of landed.now) self.now).number ≤ result }
+        ensures most { result ≤ last_number (stream_in self.now) }
+    {
+        let base = self.landed_number(landed);
+        let last = self.stream.number + self.stream.objects.len() as u64;
+        landed_after(landed, base, last.saturating_sub(base))
+    }
+
+    // Keeps the first `count` entries, the objects up to a number, which are acknowledged, and what a mount
+    // finds of those that have landed. The one error is that memory ran out, after which the volume is as
+    // before.
+    fn cut_to(&mut self, landed: &[bool], number: u64, count: u64) -> Result<(), AllocError>
+        requires first { (landed_checkpoint (numbers_of landed.now) self.old).number ≤ number }
+        requires most { number ≤ last_number (stream_in self.old) }
+        ensures volume { OnOk result (self.new ≡ found_with number count
+            (landed_checkpoint (numbers_of landed.now) self.old)
+            (absent_of (numbers_of landed.now) self.old.given_out) self.old) }
+        ensures err { OnErr result (self.new ≡ self.old) }
+    {
+        let alloc = *self.pins.allocator();
+        let checkpoint = self.landed_checkpoint(landed)?;
+        let removed = absent_of(alloc, landed, self.given_out.as_slice())?;
+        let given_out = Vec::from_slice(alloc, removed.as_slice())?;
         let entries = count.saturating_sub(self.stream.end) as usize;
         let objects = number.saturating_sub(self.stream.number) as usize;
         self.stream.entries.truncate(entries);
         self.stream.objects.truncate(objects);
         self.last = number;
         self.uploads.clear();
+        self.checkpoint = checkpoint;
         self.pins.clear();
+        self.removed = removed;
+        self.given_out = given_out;
+        self.removal = None;
+        Ok(())
     }
 }
 

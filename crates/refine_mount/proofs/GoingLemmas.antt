@@ -15,14 +15,19 @@ use Rattle.cache_log.specs.declared.row.Row.{Row}
 use Rattle.cache_log.specs.Rows.{Follow}
 use Rattle.cache_log.specs.Opening.{sectors_between}
 use Rattle.cache_log.proofs.RowLemmas.{between_most}
+use Rattle.object_stream.specs.Stream.{objects_to, last_number}
+use Rattle.object_stream.proofs.StreamLemmas.{follow_first}
 use Rattle.stopped_volume.specs.Device.{CacheOwner}
 use Rattle.plain_disk.specs.declared.log.PlainCommit.{PlainCommit}
 use Rattle.plain_disk.specs.declared.log.PlainRecord.{PlainRecord}
 use Rattle.plain_disk.specs.Log.{PlainLog, point, place_of_first, past_pad, held_from, mounted_log}
 use Rattle.plain_disk.specs.Cache.{cache_with}
-use Rattle.plain_disk.specs.State.{PlainState}
+use Rattle.plain_disk.specs.State.{PlainState, stream_in, frontier_of}
 use Rattle.plain_disk.specs.Valid.{IsPlainLog}
+use Rattle.plain_disk.proofs.CheckpointLemmas.{same_checkpoint}
 use Rattle.plain_disk.proofs.CommitLemmas.{past_count, past_used, left_used}
+use Rattle.plain_disk.proofs.EndLemmas.{frontier_is_sealed, ends_within}
+use Rattle.plain_disk.proofs.FoldLemmas.{owners_of_first}
 use Rattle.refine_log.specs.Shows.{records_of_rows}
 use Rattle.refine_log.proofs.Following.{records_count, records_used}
 use Rattle.refine_log.specs.Stops.{entries_past, HasCommit}
@@ -62,6 +67,11 @@ mounted_is_plain_volume geometry checkpoint end plain body rows entries rest may
     let history = rest.history in
     let long = length-append plain.entries entries in
     let within = valid.stream.within in
+    let stream = stream_in plain in
+    let number = plain.checkpoint.number in
+    let sealed : number ≤ last_number stream = omega (arith, valid.checkpoint.reached, frontier_is_sealed plain valid) in
+    let owned = owners_of_first plain.number plain.end plain.entries entries stream.opening (objects_to stream number)
+    (follow_first plain.end (number - plain.number) plain.objects valid.stream.ends) (ends_within plain number valid sealed) in
     let counted : max end body.head.seq ≡ plain.end + length (plain.entries ++ entries) = omega (arith, history, long, count) in
     record {
       limits = valid.limits;
@@ -74,8 +84,9 @@ mounted_is_plain_volume geometry checkpoint end plain body rows entries rest may
       window = valid.window;
       last = valid.last;
       opened = valid.opened;
-      numbered = valid.numbered;
-      checkpoint = valid.checkpoint;
+      begun = valid.begun;
+      checkpoint = same_checkpoint stream (plain.entries ++ entries) plain.objects (frontier_of plain) (frontier_of plain)
+          plain.given_out plain.checkpoint valid.checkpoint (omega arith) owned;
       log =
           subst₂ (λ e c. IsPlainLog e c log) (sym rest.frontier) counted
           (committed_is geometry.log end (sectors_between geometry.log body) body rows may (omega (arith, size, limit)) are.follow

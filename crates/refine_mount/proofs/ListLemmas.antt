@@ -1,5 +1,6 @@
 -- Each list that was recovered shows some plain volume, which opens after the last of its objects.
-use Rattle.std.proofs.Common.{◌≡◌, ℕ, ◌-◌, ◌<◌, ◌≤◌, true, inl, inr, IsTrue, Option, Some, None, List, [], length, take, map}
+use Rattle.std.proofs.Common.{◌≡◌, ℕ, ◌+◌, ◌-◌, ◌<◌, ◌≤◌, ◌&&◌, true, inl, inr, IsTrue, Option, Some, None, IfSome, List, []}
+use Rattle.std.proofs.Common.{length, take, map}
 use Rattle.std.proofs.Common.{get_or}
 use Rattle.std.proofs.Common.{refl, sym, ◌∙◌, ap, subst, arith}
 use Rattle.std.specs.List.{range_with_len}
@@ -31,7 +32,10 @@ use Rattle.obj_log.specs.Changes.{expected_of_volume}
 use Rattle.plain_disk.specs.Log.{empty_from}
 use Rattle.plain_disk.specs.Cache.{cache_with}
 use Rattle.plain_disk.specs.State.{PlainState, stream_in, frontier_end}
+use Rattle.plain_disk.specs.Valid.{IsUnneeded, IsPlainCheckpoint}
+use Rattle.plain_disk.proofs.CheckpointLemmas.{owns_some}
 use Rattle.plain_disk.proofs.EventLemmas.{log_has_sectors}
+use Rattle.plain_disk.proofs.FirstLemmas.{IsNoCheckpoint}
 use Rattle.object_recovery.specs.Recovery.{IsListUpTo}
 use Rattle.object_recovery.specs.Places.{IsInsideObject, HasPlacesInside}
 use Rattle.object_recovery.proofs.SomeImageLemmas.{list_has_some_image}
@@ -78,8 +82,11 @@ opened_after geometry checkpoint number end image queue = record {
   entries = [];
   objects = [];
   window = record { last = number; objects = [] };
-  checkpoint = checkpoint;
+  checkpoint = record { number = checkpoint; owned = held_owners geometry.sectors queue };
   pins = [];
+  removed = [];
+  given_out = [];
+  removal = None;
   cache = cache_with (empty_from geometry.log end);
 }
 
@@ -88,6 +95,24 @@ end_of_none : (plain : PlainState) → plain.objects ≡ [] → (number : ℕ) �
 end_of_none plain none number =
     ap (λ (objects : List StreamObject). end_after plain.end (take (number - plain.number) objects)) none
     ∙ ap (end_after plain.end) (take-nil (number - plain.number))
+
+-- its checkpoint holds the owners that it opens with
+opened_checkpoint : (geometry : Geometry) (checkpoint number end : ℕ) (image : Image) (queue : QueueState)
+    → 0 < checkpoint → checkpoint ≤ number
+    → IsPlainCheckpoint (stream_in (opened_after geometry checkpoint number end image queue)) number []
+    (opened_after geometry checkpoint number end image queue).checkpoint
+opened_checkpoint geometry checkpoint number end image queue some from =
+    let plain = opened_after geometry checkpoint number end image queue in
+    let owned = held_owners geometry.sectors queue in
+    let opening = (stream_in plain).opening in
+    record {
+      numbered = some;
+      reached = from;
+      holds = λ first k. ap (λ (objects : List StreamObject). after_objects number end [] opening objects k)
+          (sym (take-nil (checkpoint - number)));
+      still = λ before other k early owns. owns_some other owned k owns;
+      unneeded = All-nil (IsUnneeded plain.checkpoint);
+    }
 
 opened_is_at_rest : (geometry : Geometry) (checkpoint number end : ℕ) (image : Image) (queue : QueueState)
     → IsTrue (is_within_limits geometry) → 0 < checkpoint → checkpoint ≤ number → length image ≡ geometry.sectors
@@ -112,8 +137,8 @@ opened_is_at_rest geometry checkpoint number end image queue limits some from se
         };
         last = omega arith;
         opened = omega arith;
-        numbered = some;
-        checkpoint = from;
+        begun = All-nil (λ object. IsTrue (object.was_started && object.is_checkpoint) → object.number ≤ number + 1);
+        checkpoint = opened_checkpoint geometry checkpoint number end image queue some from;
         log = record {
           counted = omega arith;
           room = record { limit = size.1; head = size.0; used = omega arith };
@@ -124,6 +149,7 @@ opened_is_at_rest geometry checkpoint number end image queue limits some from se
       };
       geometry_is = refl;
       checkpoint_is = refl;
+      alone = record { none_open = All-nil IsNoCheckpoint; none_removed = refl; none_given_out = refl; none_out = refl };
       none = refl;
       frontier = ends;
       history = omega arith;

@@ -1,5 +1,5 @@
 -- What a mount without the cache makes of a plain volume, and that the list that was recovered shows it.
-use Rattle.std.proofs.Common.{◌≡◌, ℕ, ◌-◌, ◌<◌, ◌≤◌, true, [], take, refl, sym, ◌∙◌, ap, subst, arith}
+use Rattle.std.proofs.Common.{◌≡◌, ℕ, ◌-◌, ◌<◌, ◌≤◌, true, List, [], take, refl, sym, ◌∙◌, ap, subst, arith}
 use Rattle.std.specs.Prelude.{IsTrue}
 use Rattle.std.proofs.Math.Path.{subst₂}
 use Rattle.std.proofs.lemmas.List.{take-take}
@@ -16,10 +16,11 @@ use Rattle.object_uploads.specs.Image.{HasImage}
 use Rattle.plain_disk.specs.Log.{empty_from}
 use Rattle.plain_disk.specs.Cache.{PlainCache, cache_with}
 use Rattle.plain_disk.specs.State.{PlainState, stream_in, history_length, frontier_end}
-use Rattle.plain_disk.specs.Stops.{recovered_end, mounted_lost}
-use Rattle.plain_disk.specs.Valid.{IsPlainVolume, IsPlainLog}
+use Rattle.plain_disk.specs.Stops.{recovered_end, mounted_kept, mounted_lost}
+use Rattle.plain_disk.specs.Valid.{IsPlainVolume, IsPlainCheckpoint, IsPlainLog}
 use Rattle.plain_disk.proofs.EndLemmas.{ends_within}
 use Rattle.plain_disk.proofs.EventLemmas.{log_has_sectors}
+use Rattle.plain_disk.proofs.FirstLemmas.{landed_is_first, none_is_absent, cut_keeps_first}
 use Rattle.plain_disk.proofs.MountLemmas.{cut_is, cut_count}
 use Rattle.refine_objects.specs.Shows.{settled_image}
 use Rattle.refine_mount.specs.Mounted.{end_of_object, cut_to_object, sizes_with}
@@ -28,10 +29,24 @@ use Rattle.refine_mount.specs.Laws.{MountsByNumber, MountedIsAtRest, RecoveredSh
 -- ---- what a mount is to make
 
 pub mounts_by_number : MountsByNumber
-mounts_by_number plain landed kept = (
-  refl,
-  ap (λ size. record (mounted_lost landed plain) { cache = cache_with (empty_from size (recovered_end landed plain)) }),
-)
+mounts_by_number plain landed kept first =
+    let newest = landed_is_first plain landed first in
+    let none = none_is_absent plain landed first in
+    let removed = none ∙ sym first.none_removed in
+    let given_out = none ∙ sym first.none_given_out in
+    let end : ℕ = recovered_end landed plain in (
+      λ i. record (mounted_kept landed kept plain) {
+        checkpoint = newest i;
+        removed = removed i;
+        given_out = given_out i;
+      },
+      λ size i. record (mounted_lost landed plain) {
+        checkpoint = newest i;
+        removed = removed i;
+        given_out = given_out i;
+        cache = cache_with (empty_from (size i) end);
+      },
+    )
 
 -- ---- the volume at rest
 
@@ -50,12 +65,12 @@ still_in_range : (log : ℕ) (geometry : Geometry) (entry : Entry) → is_in_ran
 still_in_range log geometry (Write lba body) in_range = in_range
 still_in_range log geometry (Zero lba sectors) in_range = in_range
 
--- a plain volume has another cache, whose log may be of another length
-moved_is : (log : ℕ) (plain : PlainState) (cache : PlainCache) → IsPlainVolume plain
+-- a plain volume has another cache, whose log may be of another length, and whatever objects were removed
+moved_is : (log : ℕ) (plain : PlainState) (removed : List ℕ) (cache : PlainCache) → IsPlainVolume plain
     → IsTrue (is_within_limits (sizes_with log plain.geometry)) → cache.log.size ≡ log
     → IsPlainLog (frontier_end plain) (history_length plain) cache.log
-    → IsPlainVolume (record plain { geometry = sizes_with log plain.geometry; cache = cache })
-moved_is log plain cache valid limits size of_log = record {
+    → IsPlainVolume (record plain { geometry = sizes_with log plain.geometry; removed = removed; cache = cache })
+moved_is log plain removed cache valid limits size of_log = record {
   limits = limits;
   sectors = valid.sectors;
   owned = valid.owned;
@@ -67,7 +82,7 @@ moved_is log plain cache valid limits size of_log = record {
   window = valid.window;
   last = valid.last;
   opened = valid.opened;
-  numbered = valid.numbered;
+  begun = valid.begun;
   checkpoint = valid.checkpoint;
   log = of_log;
   size = size;
@@ -79,6 +94,13 @@ cut_end plain number =
     let count = number - plain.number in
     ap (end_after plain.end) (take-take count count plain.objects (omega arith))
 
+-- the newest acknowledged checkpoint is so of the objects up to a number that is not before it
+newest_is : (plain : PlainState) (number : ℕ) → IsPlainVolume plain → plain.checkpoint.number ≤ number
+    → IsPlainCheckpoint (stream_in plain) number plain.given_out plain.checkpoint
+newest_is plain number valid from =
+    let is = valid.checkpoint in
+    record { numbered = is.numbered; reached = from; holds = is.holds; still = is.still; unneeded = is.unneeded }
+
 pub mounted_is_at_rest : MountedIsAtRest
 mounted_is_at_rest uuid log plain number objects valid has limits =
     let end : ℕ = end_of_object number plain in
@@ -89,16 +111,19 @@ mounted_is_at_rest uuid log plain number objects valid has limits =
     let history = cut_count plain number end valid (omega arith) within in
     let same : PlainCache = cache_with (empty_from plain.cache.log.size end) in
     let old_log = emptied_is plain.cache.log.size end (omega (arith, valid.log.room.head)) valid.log.room.limit in
-    let old = cut_is plain number end same valid from last (omega arith) within valid.size old_log in
+    let newest = newest_is plain number valid (omega (arith, has.opened, from)) in
+    let old = cut_is plain number end plain.checkpoint plain.given_out same valid from last (omega arith) within newest valid.size
+    old_log in
     let sectors = log_has_sectors (sizes_with log plain.geometry) limits in
     let of_log = subst₂ (λ e c. IsPlainLog e c (empty_from log end)) (sym frontier) (sym history)
     (emptied_is log end sectors.0 sectors.1) in
     record {
       valid =
-          moved_is log (record (cut_to_object number plain) { cache = same }) (cache_with (empty_from log end)) old limits refl
-          of_log;
+          moved_is log (record (cut_to_object number plain) { removed = plain.given_out; cache = same }) plain.removed
+          (cache_with (empty_from log end)) old limits refl of_log;
       geometry_is = refl;
       checkpoint_is = refl;
+      alone = cut_keeps_first plain number end (sizes_with log plain.geometry) (cache_with (empty_from log end)) has.alone;
       none = refl;
       frontier = frontier;
       history = history;

@@ -25,6 +25,7 @@ use Rattle.cache_log.proofs.ForCallers.{from_is_between}
 use Rattle.plain_disk.specs.declared.log.PlainCommit.{PlainCommit}
 use Rattle.plain_disk.specs.State.{PlainState}
 use Rattle.plain_disk.specs.Valid.{IsPlainVolume}
+use Rattle.plain_disk.proofs.FirstLemmas.{cut_keeps_first}
 use Rattle.refine_log.proofs.Following.{Reaches, reach_used}
 use Rattle.stopped_volume.specs.Device.{CacheOwner}
 use Rattle.refine_log.specs.Stops.{entries_past, HasCommit}
@@ -77,8 +78,8 @@ mounted_is_valid uuid owner plain found number objects left valid has_objects ha
     let seqs = records.seqs in
     let tail = has.tail in
     subst IsPlainVolume (mounted_is_going_on uuid owner plain found number objects left valid has_objects has)
-    (mounted_is_plain_volume geometry plain.checkpoint end (mounted_without geometry.log number plain) body has.rows entries
-    (mounted_is_at_rest uuid geometry.log plain number objects valid has_objects valid.limits) may are tail in_range
+    (mounted_is_plain_volume geometry plain.checkpoint.number end (mounted_without geometry.log number plain) body has.rows
+    entries (mounted_is_at_rest uuid geometry.log plain number objects valid has_objects valid.limits) may are tail in_range
     (omega (arith, long, rest, all, seqs, tail)))
 
 -- ---- its objects
@@ -119,6 +120,8 @@ mounted_has_objects uuid plain found number objects valid has =
     record {
       uuid_at = has.uuid_at;
       opened = has.opened;
+      alone = cut_keeps_first plain number (max (end_of_object number plain) found.head.seq) plain.geometry
+          (mounted_with found number plain).cache has.alone;
       blank_is = has.blank_is;
       stored = record {
         valid = valid.stream;

@@ -23,6 +23,7 @@ use Rattle.stopped_volume.specs.Device.{CacheOwner, owner_of}
 use Rattle.plain_disk.specs.declared.log.PlainCommit.{PlainCommit}
 use Rattle.plain_disk.specs.Log.{PlainLog}
 use Rattle.plain_disk.specs.State.{PlainState, stream_in, history_length, frontier_end}
+use Rattle.plain_disk.specs.First.{HasFirstCheckpointAlone}
 use Rattle.plain_disk.specs.Cache.{is_kept, kept_commit}
 use Rattle.plain_disk.specs.Stops.{recovered_number, mounted_kept, mounted_lost}
 use Rattle.plain_disk.specs.Valid.{IsPlainVolume}
@@ -43,11 +44,11 @@ use Rattle.refine_mount.specs.Rest.{IsAtRest}
 
 -- ---- what a mount is to make
 
--- What a mount makes of the plain volume depends on what has landed by the number alone that is recovered. One without the cache
--- on a device of the same length is the case of a log as long as the volume's was.
+-- What a mount makes of a plain volume that makes no checkpoint and removes no object depends on what has landed by the number
+-- alone that is recovered. One without the cache on a device of the same length is the case of a log as long as the volume's was.
 abbrev pub MountsByNumber : Type 0
 MountsByNumber =
-    (plain : PlainState) (landed : Numbers) (kept : List Bool)
+    (plain : PlainState) (landed : Numbers) (kept : List Bool) → HasFirstCheckpointAlone plain
     → (mounted_kept landed kept plain ≡ mounted_with (kept_commit kept plain.cache) (recovered_number landed plain) plain)
     × (plain.cache.log.size ≡ plain.geometry.log
     → mounted_lost landed plain ≡ mounted_without plain.geometry.log (recovered_number landed plain) plain)
@@ -59,7 +60,8 @@ abbrev pub MountedIsAtRest : Type 0
 MountedIsAtRest =
     (uuid : List ℕ) (log : ℕ) (plain : PlainState) (number : ℕ) (objects : Objects) → IsPlainVolume plain
     → HasObjects uuid plain number objects → IsTrue (is_within_limits (sizes_with log plain.geometry))
-    → IsAtRest (sizes_with log plain.geometry) plain.checkpoint (end_of_object number plain) (mounted_without log number plain)
+    → IsAtRest (sizes_with log plain.geometry) plain.checkpoint.number (end_of_object number plain)
+    (mounted_without log number plain)
 
 -- and a list that was recovered of its objects shows it
 abbrev pub RecoveredShowsObjects : Type 0

@@ -4,14 +4,16 @@ use Rattle.lsvd_base.specs.declared.geometry.Geometry.{Geometry}
 use Rattle.plain_disk.specs.Log.{empty_from}
 use Rattle.plain_disk.specs.Cache.{cache_with}
 use Rattle.plain_disk.specs.State.{PlainState, history_length, frontier_end}
+use Rattle.plain_disk.specs.First.{HasFirstCheckpointAlone}
 use Rattle.plain_disk.specs.Valid.{IsPlainVolume}
 
 -- All objects of a plain volume are acknowledged, each of its entries is in one, up to an end, and its log is empty. Nothing is
--- pinned.
+-- pinned, and none of its objects was ever given out for removal.
 pub record IsAtRest (geometry : Geometry) (checkpoint end : ℕ) (plain : PlainState) : Type 0 where
   pub valid : IsPlainVolume plain
   pub geometry_is : plain.geometry ≡ geometry
-  pub checkpoint_is : plain.checkpoint ≡ checkpoint
+  pub checkpoint_is : plain.checkpoint.number ≡ checkpoint
+  pub alone : HasFirstCheckpointAlone plain
   pub none : plain.window.objects ≡ []
   pub frontier : frontier_end plain ≡ end
   pub history : history_length plain ≡ end

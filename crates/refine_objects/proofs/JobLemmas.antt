@@ -26,7 +26,8 @@ use Rattle.obj_log.specs.State.{ObjLogState}
 use Rattle.obj_log.specs.Stream.{IsOfStream}
 use Rattle.obj_log.proofs.StreamLemmas.{jobs_keep_stream, done_keeps_stream}
 use Rattle.obj_log.proofs.ImageLemmas.{jobs_keep_image, done_makes_image}
-use Rattle.plain_disk.specs.State.{PlainState, stream_in, frontier_of, frontier_end}
+use Rattle.plain_disk.specs.Checkpoints.{checkpoint_after_done}
+use Rattle.plain_disk.specs.State.{PlainState, PlainCheckpoint, stream_in, frontier_of, frontier_end}
 use Rattle.plain_disk.specs.Objects.{window_after_take}
 use Rattle.plain_disk.specs.Valid.{IsPlainVolume}
 use Rattle.plain_disk.proofs.Overlaid.{EndsBy-in_range}
@@ -196,9 +197,22 @@ module _ (data_at : ℕ → ℕ) (old new : ObjLogState) (plain : PlainState) (n
         receipts = made.1;
       }
 
+-- it shows the same whichever checkpoint is the newest
+with_other_checkpoint : (data_at : ℕ → ℕ) (objects : ObjLogState) (plain : PlainState) (checkpoint : PlainCheckpoint)
+    → ShowsObjects data_at objects plain → ShowsObjects data_at objects (record plain { checkpoint = checkpoint })
+with_other_checkpoint data_at objects plain checkpoint shows = record {
+  geometry = shows.geometry;
+  stream = shows.stream;
+  window = shows.window;
+  image = shows.image;
+  receipts = shows.receipts;
+}
+
 pub done_shows_done : DoneShowsDone
 done_shows_done data_at old new plain number bytes receipt uploads valid shows out tells done batch =
+    let checkpoint = checkpoint_after_done (Some number) plain in
     let window = ap (λ b. cond b (acknowledged number plain.window) plain.window)
     (under_way data_at old plain number shows out.started) in
-    subst (λ (w : WindowState). ShowsObjects data_at new (with_window w plain)) window
-    (done_shown data_at old new plain number bytes receipt uploads valid shows out tells done batch)
+    subst (λ (w : WindowState). ShowsObjects data_at new (record plain { window = w; checkpoint = checkpoint })) window
+    (with_other_checkpoint data_at new (with_window (acknowledged number plain.window) plain) checkpoint
+    (done_shown data_at old new plain number bytes receipt uploads valid shows out tells done batch))

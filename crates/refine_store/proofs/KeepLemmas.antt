@@ -1,25 +1,27 @@
 -- An object of a plain volume stays one while events go on, and over a mount that recovers it.
 use Rattle.std.proofs.Common.{◌≡◌, ℕ, ◌+◌, ◌-◌, ◌<◌, ◌≤◌, Bool, true, false, cond, not, ◌&&◌, List, [], ◌∷◌, ◌++◌, length, take}
-use Rattle.std.proofs.Common.{drop, max}
+use Rattle.std.proofs.Common.{Option, Some, None, drop, max}
 use Rattle.std.proofs.Common.{refl, sym, ◌∙◌, ap, subst, arith, append-nil}
 use Rattle.std.specs.List.{slice_get}
 use Rattle.std.proofs.lemmas.List.{take-take, take-append-le}
 use Rattle.std.proofs.lemmas.Option.{slice_get_within}
 use Rattle.object_format.specs.declared.expected.Expected.{Expected}
 use Rattle.object_format.specs.declared.rows.Rows.TheVariants as rows_of
-use Rattle.object_stream.specs.declared.object.Content.TheVariants.{Data}
+use Rattle.object_stream.specs.declared.object.Content.TheVariants.{Data, Checkpoint}
 use Rattle.object_stream.specs.declared.object.StreamObject.{StreamObject}
 use Rattle.object_stream.specs.Changes.{change_at}
 use Rattle.object_stream.specs.Replay.{HasParts, expected_at}
-use Rattle.object_stream.specs.Stream.{end_after, end_at}
+use Rattle.object_stream.specs.Stream.{end_after, end_at, last_number}
 use Rattle.upload_window.specs.Window.{entered}
 use Rattle.plain_disk.specs.declared.event.PlainEvent.{PlainEvent}
 use Rattle.plain_disk.specs.declared.event.PlainEvent.TheVariants.{Write, Zero, Flush, Look, Release, Seal, TakeJob, JobDone}
-use Rattle.plain_disk.specs.declared.event.PlainEvent.TheVariants.{JobFailed, Status}
+use Rattle.plain_disk.specs.declared.event.PlainEvent.TheVariants.{JobFailed, SealCheckpoint, TakeRemove}
+use Rattle.plain_disk.specs.declared.event.PlainEvent.TheVariants.{RemoveDone, RemoveFailed, Status}
 use Rattle.lsvd_base.specs.Limits.{may_transfer}
 use Rattle.plain_disk.specs.Cache.{after_reads}
 use Rattle.plain_disk.specs.Objects.{has_unsealed, is_busy, end_of_next}
 use Rattle.plain_disk.specs.Reads.{look_calls, passes_look, objects_read, are_pinned, without_pins}
+use Rattle.plain_disk.specs.Removals.{to_remove, with_removal, is_out}
 use Rattle.plain_disk.specs.State.{PlainState, stream_in}
 use Rattle.plain_disk.specs.Step.{plain_after}
 use Rattle.plain_disk.specs.Valid.{IsPlainVolume}
@@ -113,6 +115,12 @@ either_keeps : (plain : PlainState) (b : Bool) (x y : PlainState) → KeepsObjec
 either_keeps plain true x y keeps other = keeps
 either_keeps plain false x y other keeps = keeps
 
+-- a removal that begins, or none
+removal_keeps : (plain : PlainState) (out lowest : Option ℕ) → KeepsObjects plain (with_removal out lowest plain)
+removal_keeps plain None None = has_same plain
+removal_keeps plain None (Some number) = has_same plain
+removal_keeps plain (Some other) lowest = has_same plain
+
 keeps_objects : (plain : PlainState) (event : PlainEvent) → KeepsObjects plain (plain_after event plain)
 keeps_objects plain (Write lba body) = has_same plain
 keeps_objects plain (Zero lba sectors) = has_same plain
@@ -135,6 +143,20 @@ keeps_objects plain Seal =
 keeps_objects plain TakeJob = has_same plain
 keeps_objects plain (JobDone job) = has_same plain
 keeps_objects plain (JobFailed job) = has_same plain
+keeps_objects plain SealCheckpoint =
+    let object : StreamObject = record {
+      content = Checkpoint;
+      end = end_at (stream_in plain) (last_number (stream_in plain));
+    } in
+    either_keeps plain (is_busy plain) plain
+    (record plain { objects = plain.objects ++ object ∷ []; window = entered (plain.window.last + 1) true plain.window })
+    (has_same plain) (refl, refl, (object ∷ [], refl))
+keeps_objects plain TakeRemove = removal_keeps plain plain.removal (to_remove plain)
+keeps_objects plain (RemoveDone number) =
+    let gone : PlainState = record plain { removed = plain.removed ++ number ∷ []; removal = None } in
+    either_keeps plain (is_out number plain.removal) gone plain (has_same plain) (has_same plain)
+keeps_objects plain (RemoveFailed number) =
+    either_keeps plain (is_out number plain.removal) (record plain { removal = None }) plain (has_same plain) (has_same plain)
 keeps_objects plain Status = has_same plain
 
 pub events_keep_object : EventsKeepObject

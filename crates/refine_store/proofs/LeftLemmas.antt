@@ -37,6 +37,7 @@ use Rattle.plain_disk.specs.State.{PlainState, stream_in}
 use Rattle.plain_disk.specs.Stops.{recovered_number}
 use Rattle.plain_disk.specs.Valid.{IsPlainVolume, MayLand}
 use Rattle.plain_disk.proofs.Overlaid.{EndsBy-in_range, sectors_limit}
+use Rattle.plain_disk.proofs.FirstLemmas.{checkpoint_is_first, first_may_land}
 use Rattle.plain_disk.proofs.StopLemmas.{recovers_before_missing, recovers_sealed}
 use Rattle.refine_mount.specs.Found.{HasObjects}
 use Rattle.refine_store.specs.Puts.{IsObjectOf, state_of_put, AreBytesOfPut, ArePuts, MayBeLeft}
@@ -143,18 +144,18 @@ module _ (uuid : List ℕ) (epoch : ℕ) (plain : PlainState) (puts : ℕ → Op
       ap is_some held
 
   may_land : MayLand plain landed
-  may_land = record {
-    surely = λ number some is. elim (cases_lt plain.number number) [
-      | inl past ↦ acknowledged_landed number past is
-      | inr low ↦
-          let same : plain.number ≡ number = omega (arith, left.opened_first) in
-          subst (λ n. IsTrue (landed n)) same (ap is_some left.first.present)
-    ];
-    perhaps = λ number over there.
-        let past : plain.number < number = omega (arith, valid.last) in
-        let none = left.held.none_else number past (are.none_else number over) in
-        let e = ap is_some none in absurd (cc);
-  }
+  may_land =
+      first_may_land plain landed left.alone
+      (λ number some is. elim (cases_lt plain.number number) [
+        | inl past ↦ acknowledged_landed number past is
+        | inr low ↦
+            let same : plain.number ≡ number = omega (arith, left.opened_first) in
+            subst (λ n. IsTrue (landed n)) same (ap is_some left.first.present)
+      ])
+      (λ number over there.
+      let past : plain.number < number = omega (arith, valid.last) in
+      let none = left.held.none_else number past (are.none_else number over) in
+      let e = ap is_some none in absurd (cc))
 
   abbrev number : ℕ
   number = recovered_number landed plain
@@ -165,7 +166,9 @@ module _ (uuid : List ℕ) (epoch : ℕ) (plain : PlainState) (puts : ℕ → Op
   is_first other = other == plain.number
 
   missing : IsFirstMissing is_first landed (number + 1)
-  missing = recovers_before_missing plain landed is_first valid may_land (λ other. ap (λ n. other == n) (sym left.opened))
+  missing =
+      recovers_before_missing plain landed is_first valid may_land
+      (λ other from. ap (λ n. other == n) (sym left.opened) ∙ sym (checkpoint_is_first plain other left.alone))
 
   base_is : missing.base ≡ plain.number
   base_is = let is : (missing.base == plain.number) ≡ true = missing.newest.is_checkpoint in grind (arith, nat_tests)
@@ -296,6 +299,7 @@ module _ (uuid : List ℕ) (epoch : ℕ) (plain : PlainState) (puts : ℕ → Op
   has_objects = record {
     uuid_at = uuid_at;
     opened = left.opened;
+    alone = left.alone;
     blank_is = left.blank_is;
     stored = record { valid = valid.stream; stored = stored; hold_data = hold_data; inside = inside };
   }

@@ -19,6 +19,7 @@ use Rattle.plain_disk.specs.Cache.{PlainCache, cache_with}
 use Rattle.plain_disk.specs.State.{PlainState}
 use Rattle.plain_disk.specs.Stops.{cut_to_count}
 use Rattle.plain_disk.specs.Valid.{IsPlainVolume}
+use Rattle.plain_disk.proofs.FirstLemmas.{first_with, cut_keeps_first}
 use Rattle.stopped_volume.specs.Store.{PutState, MayHoldPut}
 use Rattle.stopped_volume.specs.Store.PutState.{Acknowledged, Begun, NotBegun}
 use Rattle.stopped_volume.specs.Super.{HasVolume}
@@ -143,6 +144,7 @@ module _ (uuid : List ℕ) (epoch : ℕ) (plain : PlainState) (number : ℕ) (ob
     may_be_left = record {
       described = has_with_log uuid plain.geometry epoch objects log has.described;
       opened = has.objects_are.opened;
+      alone = cut_keeps_first plain number count (sizes_with log plain.geometry) cache has.objects_are.alone;
       opened_first = has.opened_first;
       blank_is = has.objects_are.blank_is;
       first = has.objects_are.stored.stored.based;
@@ -223,6 +225,7 @@ stands_with_any_cache uuid epoch plain cache uploads objects stands =
       left = record {
         described = stands.left.described;
         opened = stands.left.opened;
+        alone = first_with plain plain.entries cache plain.pins stands.left.alone;
         opened_first = stands.left.opened_first;
         blank_is = stands.left.blank_is;
         first = stands.left.first;

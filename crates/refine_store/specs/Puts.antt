@@ -19,6 +19,7 @@ use Rattle.stopped_volume.specs.Super.{HasVolume}
 use Rattle.stopped_volume.specs.Store.{PutState, MayHoldPuts}
 use Rattle.stopped_volume.specs.Store.PutState.{Acknowledged, Begun, NotBegun}
 use Rattle.plain_disk.specs.State.{PlainState, stream_in}
+use Rattle.plain_disk.specs.First.{HasFirstCheckpointAlone}
 use Rattle.object_recovery.specs.Checkpoints.{expected_of}
 
 -- ---- the bytes of an object
@@ -64,13 +65,14 @@ pub record ArePuts (volume : Expected) (plain : PlainState) (puts : ℕ → Opti
 
 -- ---- a stop
 
--- What a stop may leave of the store of a plain volume, which opens blank at its newest checkpoint: its super object and its
--- epochs, of which this is the newest, that checkpoint, and of each later object what its put allows. Each volume opens at object
--- 1, and none of its objects has a lower number.
+-- What a stop may leave of the store of a plain volume, which opens blank at its newest checkpoint, the only one: its super
+-- object and its epochs, of which this is the newest, that checkpoint, and of each later object what its put allows. Each volume
+-- opens at object 1, and none of its objects has a lower number.
 pub record MayBeLeft (uuid : List ℕ) (epoch : ℕ) (plain : PlainState) (puts : ℕ → Option (PutState × List ℕ))
     (objects : Objects) : Type 0 where
   pub described : HasVolume uuid plain.geometry epoch objects
-  pub opened : plain.checkpoint ≡ plain.number
+  pub opened : plain.checkpoint.number ≡ plain.number
+  pub alone : HasFirstCheckpointAlone plain
   pub opened_first : plain.number ≡ 1
   pub blank_is : plain.opening ≡ blank plain.geometry.sectors
   pub first : IsCheckpointOf (expected_of uuid plain.geometry) objects plain.number plain.end (stream_in plain).opening

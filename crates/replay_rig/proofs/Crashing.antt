@@ -17,8 +17,9 @@ use Rattle.stopped_volume.specs.Store.{PutState, MayHoldPut}
 use Rattle.stopped_volume.specs.Store.PutState.{Acknowledged, Begun, NotBegun}
 use Rattle.upload_window.specs.declared.object.OpenObject.{OpenObject}
 use Rattle.upload_window.specs.Window.{WindowState, IsAcknowledged, has_number, was_started, was_started_with}
-use Rattle.plain_disk.specs.State.{PlainState, stream_in}
+use Rattle.plain_disk.specs.State.{PlainState, PlainCheckpoint, stream_in}
 use Rattle.plain_disk.specs.Stops.{landed_after, recovered_number}
+use Rattle.plain_disk.proofs.FirstLemmas.{landed_is_first}
 use Rattle.refine_store.specs.Puts.{IsObjectOf, state_of_put, AreBytesOfPut, ArePuts, MayBeLeft}
 use Rattle.transcript.specs.Letters.{under_way, has_landed, landed_by}
 use Rattle.replay_rig.specs.Puts.{PutView}
@@ -457,6 +458,7 @@ may_be_left rig plain letters new h lands =
     record {
       described = lands_keep_volume rig.puts letters rig.objects new plain.geometry h.epoch lands h.described;
       opened = opens.checkpoint ∙ sym opens.number;
+      alone = h.shows.alone;
       opened_first = opens.number;
       blank_is = opens.opening;
       first = subst (λ k. IsCheckpointOf (expected_of_plain plain) new k plain.end (stream_in plain).opening)
@@ -509,9 +511,14 @@ pub recovered_same : (rig : RigState) (plain : PlainState) (letters : List ℕ) 
     → recovered_number (landed_in new (expected_of_plain plain)) plain ≡ recovered_number (landed_by plain.window letters) plain
 recovered_same rig plain letters new h lands =
     let first = h.opens.checkpoint in
-    landed_as (landed_in new (expected_of_plain plain)) (landed_by plain.window letters) plain.checkpoint
-    (last_number (stream_in plain) - plain.checkpoint)
+    let last = last_number (stream_in plain) in
+    let there = landed_in new (expected_of_plain plain) in
+    let by_letters = landed_by plain.window letters in
+    let From : Numbers → PlainCheckpoint → ℕ = λ landed c. landed_after landed c.number (last - c.number) in
+    ap (From there) (landed_is_first plain there h.shows.alone)
+    ∙ landed_as there by_letters plain.checkpoint.number (last - plain.checkpoint.number)
     (λ n past. landed_same rig plain letters new n h lands (omega (arith, past, first)))
+    ∙ sym (ap (From by_letters) (landed_is_first plain by_letters h.shows.alone))
 
 -- ---- the objects that are left
 

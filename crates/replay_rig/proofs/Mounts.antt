@@ -448,8 +448,10 @@ kept_rig rig plain fates letters new after left mounted h on_disk lands is_left_
     h.shows.valid low object).0)
     (next_number rig plain fates letters new left h on_disk lands is_left_by count mounted
     (subst (λ n. NumbersNextCommit n left mounted) (sym log) numbers)) in
-    subst (IsMadeBy rig (λ n. mounted_with commit n plain) mounted after) (recovered_same rig plain letters new h lands)
-    (told_mount mounted (mounted_with commit number plain) number is, shows)
+    let same = (mounts_by_number plain (landed_by plain.window letters) (map is_kept fates) h.shows.alone).0 in
+    subst (λ made. IsMountedRig rig letters plain made mounted after) (sym same)
+    (subst (IsMadeBy rig (λ n. mounted_with commit n plain) mounted after) (recovered_same rig plain letters new h lands)
+    (told_mount mounted (mounted_with commit number plain) number is, shows))
 
 pub lost_rig : (rig : RigState) (plain : PlainState) (letters : List ℕ) (new after : Objects) (mounted : MountedState)
     (sectors : ℕ)
@@ -471,7 +473,7 @@ lost_rig rig plain letters new after mounted sectors h lands few log was mounts 
     (λ n bytes low object. (mounts_keep_object (expected_of_plain plain) plain plain.cache.log.last size number n bytes
     h.shows.valid low object).1)
     (omega (arith, numbers)) in
-    let same = (mounts_by_number plain (landed_by plain.window letters) []).1 h.shows.valid.size in
+    let same = (mounts_by_number plain (landed_by plain.window letters) [] h.shows.alone).1 h.shows.valid.size in
     subst (λ made. IsMountedRig rig letters plain made mounted after) (sym same)
     (subst (IsMadeBy rig (λ n. mounted_without size n plain) mounted after) (recovered_same rig plain letters new h lands)
     (told_mount mounted (mounted_without size number plain) number is, shows))

@@ -8,12 +8,14 @@ use Rattle.lsvd_base.specs.declared.geometry.Geometry.{Geometry}
 use Rattle.lsvd_base.specs.Image.{blank}
 use Rattle.lsvd_base.specs.Limits.{may_transfer}
 use Rattle.lsvd_device.specs.Calls.{Fuse, fuse_after}
-use Rattle.object_stream.specs.declared.object.Content.TheVariants.{Data}
+use Rattle.object_stream.specs.declared.object.Content.TheVariants.{Data, Checkpoint}
 use Rattle.object_stream.specs.declared.object.StreamObject.{StreamObject}
+use Rattle.object_stream.specs.Stream.{end_at, last_number}
 use Rattle.upload_window.specs.Window.{WindowState, lowest_ready, entered, is_started, acknowledged, marked}
 use Rattle.plain_disk.specs.declared.event.PlainEvent.{PlainEvent}
 use Rattle.plain_disk.specs.declared.event.PlainEvent.TheVariants.{Write, Zero, Flush, Look, Release, Seal, TakeJob, JobDone}
-use Rattle.plain_disk.specs.declared.event.PlainEvent.TheVariants.{JobFailed, Status}
+use Rattle.plain_disk.specs.declared.event.PlainEvent.TheVariants.{JobFailed, SealCheckpoint, TakeRemove}
+use Rattle.plain_disk.specs.declared.event.PlainEvent.TheVariants.{RemoveDone, RemoveFailed, Status}
 use Rattle.plain_disk.specs.Cache.{PlainCache, writes_of, after_writes, after_reads, passes_entry, cache_after_entry}
 use Rattle.plain_disk.specs.Cache.{commit_calls_after, cache_after_commit}
 use Rattle.plain_disk.specs.Log.{with_record}
@@ -21,9 +23,13 @@ use Rattle.plain_disk.specs.Entries.{batch_refusal, commits_for_room, cache_for,
 use Rattle.plain_disk.specs.Objects.{has_unsealed, is_busy, end_of_next, window_after_take, window_after_done}
 use Rattle.plain_disk.specs.Objects.{window_after_failed}
 use Rattle.plain_disk.specs.Reads.{look_calls, passes_look, objects_read, are_pinned, without_pins}
-use Rattle.plain_disk.specs.State.{PlainState, frontier_end}
+use Rattle.plain_disk.specs.Checkpoints.{checkpoint_after_done}
+use Rattle.plain_disk.specs.First.{HasFirstCheckpointAlone}
+use Rattle.plain_disk.specs.Removals.{to_remove, with_removal, is_out}
+use Rattle.plain_disk.specs.State.{PlainState, PlainCheckpoint, stream_in, frontier_end}
 use Rattle.plain_disk.specs.Step.{plain_after}
 use Rattle.plain_disk.proofs.CommitLemmas.{either}
+use Rattle.plain_disk.proofs.FirstLemmas.{checkpoint_stays}
 use Rattle.refine_log.proofs.PlainCommits.{plain_commit_takes_calls}
 use Rattle.replay_rig.specs.Rig.{OpensBlank}
 
@@ -126,15 +132,16 @@ cache_grows plain cache pins told = record {
 }
 
 -- other objects, and another window
-window_grows : (plain : PlainState) (objects : List StreamObject) (window : WindowState) → window.last ≤ plain.window.last + 1
-    → GrowsByOne plain (record plain { objects = objects; window = window })
-window_grows plain objects window last = record {
+window_grows : (plain : PlainState) (objects : List StreamObject) (window : WindowState) (checkpoint : PlainCheckpoint)
+    → window.last ≤ plain.window.last + 1 → checkpoint ≡ plain.checkpoint
+    → GrowsByOne plain (record plain { objects = objects; window = window; checkpoint = checkpoint })
+window_grows plain objects window checkpoint last same = record {
   geometry = refl;
   opening = refl;
   number = refl;
   end = refl;
   owned = refl;
-  checkpoint = refl;
+  checkpoint = same;
   entries = omega arith;
   last = last;
   told = refl;
@@ -156,40 +163,79 @@ done_last (Some number) window =
     elim (is_started number window.objects) as (λ b. (cond b (acknowledged number window) window).last ≡ window.last)
     [ true ↦ refl | false ↦ refl ]
 
-pub event_grows : (plain : PlainState) (event : PlainEvent) → GrowsByOne plain (plain_after event plain)
-event_grows plain (Write lba body) = entering_grows plain (entries.Write lba body)
-event_grows plain (Zero lba sectors) = entering_grows plain (entries.Zero lba sectors)
-event_grows plain Flush = cache_grows plain (cache_after_commit (frontier_end plain) plain.cache) plain.pins
+-- other objects that are removed, and a removal that is out
+removal_grows : (plain : PlainState) (removed given_out : List ℕ) (removal : Option ℕ)
+    → GrowsByOne plain (record plain { removed = removed; given_out = given_out; removal = removal })
+removal_grows plain removed given_out removal = record {
+  geometry = refl;
+  opening = refl;
+  number = refl;
+  end = refl;
+  owned = refl;
+  checkpoint = refl;
+  entries = omega arith;
+  last = omega arith;
+  told = refl;
+}
+
+taking_grows : (plain : PlainState) (out lowest : Option ℕ) → GrowsByOne plain (with_removal out lowest plain)
+taking_grows plain None None = same_grows plain
+taking_grows plain None (Some number) = removal_grows plain plain.removed (plain.given_out ++ number ∷ []) (Some number)
+taking_grows plain (Some other) lowest = same_grows plain
+
+pub event_grows : (plain : PlainState) (event : PlainEvent) → HasFirstCheckpointAlone plain
+    → GrowsByOne plain (plain_after event plain)
+event_grows plain (Write lba body) alone = entering_grows plain (entries.Write lba body)
+event_grows plain (Zero lba sectors) alone = entering_grows plain (entries.Zero lba sectors)
+event_grows plain Flush alone = cache_grows plain (cache_after_commit (frontier_end plain) plain.cache) plain.pins
     (commit_told (frontier_end plain) plain.cache)
-event_grows plain (Look lba sectors) =
+event_grows plain (Look lba sectors) alone =
     let read : PlainCache = after_reads (look_calls plain lba sectors) plain.cache in
     let pins : List ℕ = cond (passes_look plain lba sectors) (plain.pins ++ objects_read plain lba sectors) plain.pins in
     either_grows plain (may_transfer plain.geometry lba sectors) (record plain { cache = read; pins = pins }) plain
     (cache_grows plain read pins (still_told plain.cache.left (look_calls plain lba sectors))) (same_grows plain)
-event_grows plain (Release numbers) =
+event_grows plain (Release numbers) alone =
     let pins : List ℕ = without_pins numbers plain.pins in
     either_grows plain (are_pinned numbers plain.pins) (record plain { pins = pins }) plain
     (cache_grows plain plain.cache pins refl) (same_grows plain)
-event_grows plain Seal =
+event_grows plain Seal alone =
     let objects : List StreamObject = plain.objects ++ record { content = Data; end = end_of_next plain } ∷ [] in
     let window : WindowState = entered (plain.window.last + 1) false plain.window in
     either_grows plain (has_unsealed plain && not (is_busy plain)) (record plain { objects = objects; window = window }) plain
-    (window_grows plain objects window (omega arith)) (same_grows plain)
-event_grows plain TakeJob =
+    (window_grows plain objects window plain.checkpoint (omega arith) refl) (same_grows plain)
+event_grows plain TakeJob alone =
+    let window = window_after_take (lowest_ready plain.window.objects) plain.window in
     let e = take_last (lowest_ready plain.window.objects) plain.window in
-    window_grows plain plain.objects (window_after_take (lowest_ready plain.window.objects) plain.window) (omega (arith, e))
-event_grows plain (JobDone job) = (let e = done_last job plain.window in
-    window_grows plain plain.objects (window_after_done job plain.window) (omega (arith, e)))
-event_grows plain (JobFailed job) = (let e = failed_last job plain.window in
-    window_grows plain plain.objects (window_after_failed job plain.window) (omega (arith, e)))
-event_grows plain Status = same_grows plain
+    window_grows plain plain.objects window plain.checkpoint (omega (arith, e)) refl
+event_grows plain (JobDone job) alone =
+    let e = done_last job plain.window in
+    window_grows plain plain.objects (window_after_done job plain.window) (checkpoint_after_done job plain) (omega (arith, e))
+    (checkpoint_stays job plain alone)
+event_grows plain (JobFailed job) alone =
+    let e = failed_last job plain.window in
+    window_grows plain plain.objects (window_after_failed job plain.window) plain.checkpoint (omega (arith, e)) refl
+event_grows plain SealCheckpoint alone =
+    let end = end_at (stream_in plain) (last_number (stream_in plain)) in
+    let objects : List StreamObject = plain.objects ++ record { content = Checkpoint; end = end } ∷ [] in
+    let window : WindowState = entered (plain.window.last + 1) true plain.window in
+    either_grows plain (is_busy plain) plain (record plain { objects = objects; window = window })
+    (same_grows plain) (window_grows plain objects window plain.checkpoint (omega arith) refl)
+event_grows plain TakeRemove alone = taking_grows plain plain.removal (to_remove plain)
+event_grows plain (RemoveDone number) alone =
+    let gone : PlainState = record plain { removed = plain.removed ++ number ∷ []; removal = None } in
+    either_grows plain (is_out number plain.removal) gone plain
+    (removal_grows plain (plain.removed ++ number ∷ []) plain.given_out None) (same_grows plain)
+event_grows plain (RemoveFailed number) alone =
+    either_grows plain (is_out number plain.removal) (record plain { removal = None }) plain
+    (removal_grows plain plain.removed plain.given_out None) (same_grows plain)
+event_grows plain Status alone = same_grows plain
 
 -- a volume that opens blank goes on to
 pub still_opens : (old new : PlainState) → GrowsByOne old new → OpensBlank old → OpensBlank new
 still_opens old new grows opens = record {
   number = grows.number ∙ opens.number;
   end = grows.end ∙ opens.end;
-  checkpoint = grows.checkpoint ∙ opens.checkpoint;
+  checkpoint = ap (λ (c : PlainCheckpoint). c.number) grows.checkpoint ∙ opens.checkpoint;
   opening = grows.opening ∙ opens.opening ∙ ap blank (ap (λ (g : Geometry). g.sectors) (sym grows.geometry));
   owned = grows.owned ∙ opens.owned;
 }

@@ -172,7 +172,7 @@ puts_go_on : (old : RigState) (volume : SteppedVolume) (objects : Objects) (puts
     → ShowsPlain (rig_after old volume objects puts) (plain_after asked plain)
 puts_go_on old volume objects puts event reply asked plain h of now are known stored described =
     let next : PlainState = plain_after asked plain in
-    let grows = event_grows plain asked in
+    let grows = event_grows plain asked h.shows.alone in
     let object_stays = λ (number : ℕ) (bytes : List ℕ) (is : IsObjectOf (expected_of_plain plain) plain number bytes).
     events_keep_object (expected_of_plain plain) plain number bytes asked h.shows.valid is in
     record {
@@ -215,7 +215,7 @@ marked_forth n started window number is =
 stored_marked : (n : ℕ) (started : Bool) (old : RigState) (plain : PlainState) (asked : PlainEvent) → ShowsPlain old plain
     → (plain_after asked plain).window ≡ marked n started plain.window → HasStored (plain_after asked plain) old.objects
 stored_marked n started old plain asked h is =
-    stored_still plain (plain_after asked plain) old.objects (event_grows plain asked)
+    stored_still plain (plain_after asked plain) old.objects (event_grows plain asked h.shows.alone)
     (λ number bytes object. events_keep_object (expected_of_plain plain) plain number bytes asked h.shows.valid object)
     (λ number positive a. marked_back n started plain.window number (subst (λ (w : WindowState). IsAcknowledged w number) is a))
     (λ number positive a. subst (λ (w : WindowState). IsAcknowledged w number) (sym is)
@@ -537,8 +537,8 @@ job_done n bytes old volume store job receipt reply plain started is put of h no
     puts_go_on old volume store (without_put n old.puts) (JobDone job receipt) reply (events.JobDone (Some n)) plain h of now
     (subst (λ (w : WindowState). AreUnderWay w.objects (without_put n old.puts)) (sym window) are)
     (all_without (IsKnownPut plain old.volume.volume) n old.puts (known_puts old plain h))
-    (stored_done n bytes plain next old.objects store (event_grows plain (events.JobDone (Some n))) window order within.0
-    within.1 put
+    (stored_done n bytes plain next old.objects store (event_grows plain (events.JobDone (Some n)) h.shows.alone) window order
+    within.0 within.1 put
     (all_at (HasBytesOfObject plain) n old.puts (out_put n bytes) is h.put_objects)
     (λ number more object. events_keep_object (expected_of_plain plain) plain number more (events.JobDone (Some n))
     h.shows.valid object)

@@ -35,7 +35,7 @@ use Rattle.replay_rig.specs.Steps.{is_counted}
 
 -- ---- replies with counts
 
--- a reply that hands nothing out but counts, and tells of no plan that came back, nor of a put that failed
+-- a reply that hands nothing out but counts, and tells of no plan that came back, nor of a put that failed, nor of a removal
 abbrev pub IsCountReply : PlainReply → Type 0
 IsCountReply (replies.Entered count) = Unit {0}
 IsCountReply (replies.Flushed count) = Unit {0}
@@ -45,6 +45,9 @@ IsCountReply (replies.Sealed number) = Unit {0}
 IsCountReply (replies.Taken number) = ⊥
 IsCountReply (replies.Done frontier) = Unit {0}
 IsCountReply replies.Returned = ⊥
+IsCountReply (replies.Removing number) = ⊥
+IsCountReply replies.Removed = ⊥
+IsCountReply replies.GivenBack = ⊥
 IsCountReply (replies.Told writes sealed frontier checkpoint) = Unit {0}
 IsCountReply (replies.BatchFull sectors) = Unit {0}
 IsCountReply (replies.EntriesFull count) = Unit {0}

@@ -216,7 +216,7 @@ pub goes_on_with : (old : RigState) (volume : SteppedVolume) (lines : ℕ) (even
     → ShowsPlain (rig_of volume old.objects old.puts old.is_stopping lines) (plain_after asked plain)
 goes_on_with old volume lines event reply asked plain h of now keeps later young =
     let next : PlainState = plain_after asked plain in
-    let grows = event_grows plain asked in
+    let grows = event_grows plain asked h.shows.alone in
     let under_way = keeps.under_way old.puts h.puts in
     let object_stays = λ (number : ℕ) (bytes : List ℕ) (is : IsObjectOf (expected_of_plain plain) plain number bytes).
     events_keep_object (expected_of_plain plain) plain number bytes asked h.shows.valid is in
@@ -248,6 +248,6 @@ pub goes_on : (old : RigState) (volume : SteppedVolume) (event : Event Kept) (re
     → ShowsPlain (rig_of volume old.objects old.puts old.is_stopping (old.lines + 1)) (plain_after asked plain)
 goes_on old volume event reply asked plain h of now keeps =
     goes_on_with old volume (old.lines + 1) event reply asked plain h of now keeps (omega arith)
-    (young_still old volume old.objects old.puts old.is_stopping plain (plain_after asked plain) (event_grows plain asked)
-    (omega (arith, of.count))
+    (young_still old volume old.objects old.puts old.is_stopping plain (plain_after asked plain)
+    (event_grows plain asked h.shows.alone) (omega (arith, of.count))
     (omega (arith, of.step.numbers.commits)) h.young)

@@ -13,7 +13,8 @@ use Rattle.replay_rig.specs.declared.answer.Answer.TheVariants.{Created, Entries
 use Rattle.replay_rig.specs.declared.answer.Answer.TheVariants.{Stopping, Mounted, BatchFull, EntriesFull, NoRoom, Range, Nothing}
 use Rattle.replay_rig.specs.declared.answer.Answer.TheVariants.{Busy, Fault}
 
--- the answer that says a reply of the plain volume; those to a plan that is given back, and to a put that fails, are no answers
+-- the answer that says a reply of the plain volume; those to a plan that is given back, to a put that fails, and to removals are
+-- no answers
 abbrev pub SaysReply : PlainReply → Answer → Type 0
 SaysReply (replies.Entered count) answer = answer ≡ Entries count
 SaysReply (replies.Flushed count) answer = answer ≡ Entries count
@@ -23,6 +24,9 @@ SaysReply (replies.Sealed number) answer = answer ≡ Sealed number
 SaysReply (replies.Taken number) answer = answer ≡ Put number
 SaysReply (replies.Done frontier) answer = answer ≡ Done frontier
 SaysReply replies.Returned answer = ⊥
+SaysReply (replies.Removing number) answer = ⊥
+SaysReply replies.Removed answer = ⊥
+SaysReply replies.GivenBack answer = ⊥
 SaysReply (replies.Told writes sealed frontier checkpoint) answer = answer ≡ Counts writes sealed frontier
 SaysReply (replies.BatchFull sectors) answer = answer ≡ BatchFull sectors
 SaysReply (replies.EntriesFull count) answer = answer ≡ EntriesFull count

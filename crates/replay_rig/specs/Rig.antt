@@ -62,7 +62,7 @@ expected_of_plain plain = expected_of script_uuid plain.geometry
 pub record OpensBlank (plain : PlainState) : Type 0 where
   pub number : plain.number ≡ 1
   pub end : plain.end ≡ 0
-  pub checkpoint : plain.checkpoint ≡ 1
+  pub checkpoint : plain.checkpoint.number ≡ 1
   pub opening : plain.opening ≡ blank plain.geometry.sectors
   pub owned : plain.owned ≡ []
 

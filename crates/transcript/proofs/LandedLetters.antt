@@ -7,7 +7,9 @@ use Rattle.upload_window.specs.declared.object.OpenObject.{OpenObject}
 use Rattle.upload_window.specs.Window.{Ascends, has_number}
 use Rattle.upload_window.proofs.Order.{at_most}
 use Rattle.plain_disk.specs.State.{PlainState}
+use Rattle.plain_disk.specs.First.{HasFirstCheckpointAlone}
 use Rattle.plain_disk.specs.Valid.{IsPlainVolume, MayLand}
+use Rattle.plain_disk.proofs.FirstLemmas.{first_may_land}
 use Rattle.transcript.specs.Letters.{has_landed, landed_by}
 
 -- the objects of which a put was ever begun, and their numbers
@@ -40,15 +42,16 @@ none_above low (object ∷ objects) last number letters ascends above =
     ]
 
 -- what the letters land may have landed
-pub may_land : (plain : PlainState) (word : List ℕ) → IsPlainVolume plain → MayLand plain (landed_by plain.window word)
-may_land plain word h = record {
-  surely = λ number positive acknowledged.
-      let entered : nat_le number plain.window.last ≡ true = le-leb _ _ acknowledged.was_entered in
-      let closed : list_any (has_number number) plain.window.objects ≡ false = acknowledged.not_open in
-      rw (entered, closed) refl;
-  perhaps = λ number above lands.
-      let late : nat_le number plain.window.last ≡ false = lt-leb _ _ above in
-      let absent = none_above 0 plain.window.objects plain.window.last number word h.window.order above in
-      let not_landed : landed_by plain.window word number ≡ false = rw late absent in
-      cc (lands, not_landed);
-}
+pub may_land : (plain : PlainState) (word : List ℕ) → IsPlainVolume plain → HasFirstCheckpointAlone plain
+    → MayLand plain (landed_by plain.window word)
+may_land plain word h first =
+    first_may_land plain (landed_by plain.window word) first
+    (λ number positive acknowledged.
+    let entered : nat_le number plain.window.last ≡ true = le-leb _ _ acknowledged.was_entered in
+    let closed : list_any (has_number number) plain.window.objects ≡ false = acknowledged.not_open in
+    rw (entered, closed) refl)
+    (λ number above lands.
+    let late : nat_le number plain.window.last ≡ false = lt-leb _ _ above in
+    let absent = none_above 0 plain.window.objects plain.window.last number word h.window.order above in
+    let not_landed : landed_by plain.window word number ≡ false = rw late absent in
+    cc (lands, not_landed))

@@ -15,8 +15,8 @@ use Rattle.plain_disk.specs.declared.event.PlainEvent.{PlainEvent}
 use Rattle.plain_disk.specs.declared.event.PlainEvent.TheVariants as events
 use Rattle.plain_disk.specs.declared.event.PlainReply.{PlainReply}
 use Rattle.plain_disk.specs.declared.event.PlainReply.TheVariants.{Entered, Flushed, Planned, Released, Sealed, Taken, Done}
-use Rattle.plain_disk.specs.declared.event.PlainReply.TheVariants.{Returned, Told, BatchFull, EntriesFull, NoRoom, Range, Nothing}
-use Rattle.plain_disk.specs.declared.event.PlainReply.TheVariants.{Busy, Fault}
+use Rattle.plain_disk.specs.declared.event.PlainReply.TheVariants.{Returned, Removing, Removed, GivenBack, Told, BatchFull}
+use Rattle.plain_disk.specs.declared.event.PlainReply.TheVariants.{EntriesFull, NoRoom, Range, Nothing, Busy, Fault}
 use Rattle.plain_disk.specs.Cache.{PlainCache, passes_commit, passes_entry}
 use Rattle.plain_disk.specs.State.{PlainState, unsealed_entries}
 use Rattle.plain_disk.specs.Entries.{reply_of_full, batch_refusal, has_room_for, cache_for, commits_are_made, room_reply}
@@ -27,7 +27,7 @@ use Rattle.plain_disk.specs.Step.{plain_reply}
 use Rattle.replay_script.proofs.Runs.{some_run_text}
 use Rattle.transcript.specs.Answers.{TellsReply}
 
--- a reply that a line may be answered with: not those to a plan that is given back, and to a put that failed
+-- a reply that a line may be answered with: not those to a plan that is given back, to a put that failed, and to removals
 abbrev pub IsLineReply : PlainReply → Type 0
 IsLineReply (Entered count) = Unit {0}
 IsLineReply (Flushed count) = Unit {0}
@@ -37,6 +37,9 @@ IsLineReply (Sealed number) = Unit {0}
 IsLineReply (Taken number) = Unit {0}
 IsLineReply (Done frontier) = Unit {0}
 IsLineReply Returned = ⊥
+IsLineReply (Removing number) = ⊥
+IsLineReply Removed = ⊥
+IsLineReply GivenBack = ⊥
 IsLineReply (Told writes sealed frontier checkpoint) = Unit {0}
 IsLineReply (BatchFull sectors) = Unit {0}
 IsLineReply (EntriesFull count) = Unit {0}
@@ -56,6 +59,9 @@ some_telling (Sealed number) is = (codes "sealed " ++ decimal number, refl)
 some_telling (Taken number) is = (codes "put " ++ decimal number, refl)
 some_telling (Done frontier) is = (codes "done " ++ decimal frontier, refl)
 some_telling Returned is = absurd is
+some_telling (Removing number) is = absurd is
+some_telling Removed is = absurd is
+some_telling GivenBack is = absurd is
 some_telling (Told writes sealed frontier checkpoint) is =
     (codes "info " ++ decimal writes ++ codes " " ++ decimal sealed ++ codes " " ++ decimal frontier, refl)
 some_telling (BatchFull sectors) is = (codes "again batch " ++ decimal sectors, refl)
@@ -104,7 +110,7 @@ of_taken : (lowest : Option ℕ) → IsLineReply (reply_of_taken lowest)
 of_taken None = tt
 of_taken (Some number) = tt
 
--- a line makes no event that gives a plan back, or tells of a put that failed
+-- a line makes no event that gives a plan back, or tells of a put that failed, and none of checkpoints and removals
 abbrev pub IsLineEvent : PlainEvent → Type 0
 IsLineEvent (events.Write lba body) = Unit {0}
 IsLineEvent (events.Zero lba sectors) = Unit {0}
@@ -115,6 +121,10 @@ IsLineEvent events.Seal = Unit {0}
 IsLineEvent events.TakeJob = Unit {0}
 IsLineEvent (events.JobDone job) = Unit {0}
 IsLineEvent (events.JobFailed job) = ⊥
+IsLineEvent events.SealCheckpoint = ⊥
+IsLineEvent events.TakeRemove = ⊥
+IsLineEvent (events.RemoveDone number) = ⊥
+IsLineEvent (events.RemoveFailed number) = ⊥
 IsLineEvent events.Status = Unit {0}
 
 -- the other events have such replies
@@ -129,4 +139,8 @@ line_reply plain events.Seal is = either (has_unsealed plain) _ _ (either (is_bu
 line_reply plain events.TakeJob is = of_taken (lowest_ready plain.window.objects)
 line_reply plain (events.JobDone job) is = either (is_under_way job plain.window) _ _ tt tt
 line_reply plain (events.JobFailed job) is = absurd is
+line_reply plain events.SealCheckpoint is = absurd is
+line_reply plain events.TakeRemove is = absurd is
+line_reply plain (events.RemoveDone number) is = absurd is
+line_reply plain (events.RemoveFailed number) is = absurd is
 line_reply plain events.Status is = tt

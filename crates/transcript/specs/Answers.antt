@@ -6,8 +6,8 @@ use Rattle.plain_disk.specs.declared.event.PlainEvent.{PlainEvent}
 use Rattle.plain_disk.specs.declared.event.PlainEvent.TheVariants as events
 use Rattle.plain_disk.specs.declared.event.PlainReply.{PlainReply}
 use Rattle.plain_disk.specs.declared.event.PlainReply.TheVariants.{Entered, Flushed, Planned, Released, Sealed, Taken, Done}
-use Rattle.plain_disk.specs.declared.event.PlainReply.TheVariants.{Returned, Told, BatchFull, EntriesFull, NoRoom, Range, Nothing}
-use Rattle.plain_disk.specs.declared.event.PlainReply.TheVariants.{Busy, Fault}
+use Rattle.plain_disk.specs.declared.event.PlainReply.TheVariants.{Returned, Removing, Removed, GivenBack, Told, BatchFull}
+use Rattle.plain_disk.specs.declared.event.PlainReply.TheVariants.{EntriesFull, NoRoom, Range, Nothing, Busy, Fault}
 use Rattle.plain_disk.specs.State.{PlainState, created_volume, history_length}
 use Rattle.plain_disk.specs.Step.{plain_reply, plain_after}
 use Rattle.plain_disk.specs.Stops.{stopping_after_calls, recovered_number, mounted_kept, mounted_lost}
@@ -32,6 +32,9 @@ TellsReply (Sealed number) text = text ≡ codes "sealed " ++ decimal number
 TellsReply (Taken number) text = text ≡ codes "put " ++ decimal number
 TellsReply (Done frontier) text = text ≡ codes "done " ++ decimal frontier
 TellsReply Returned text = ⊥
+TellsReply (Removing number) text = ⊥
+TellsReply Removed text = ⊥
+TellsReply GivenBack text = ⊥
 TellsReply (Told writes sealed frontier checkpoint) text =
     text ≡ codes "info " ++ decimal writes ++ codes " " ++ decimal sealed ++ codes " " ++ decimal frontier
 TellsReply (BatchFull sectors) text = text ≡ codes "again batch " ++ decimal sectors

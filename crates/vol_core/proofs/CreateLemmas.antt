@@ -24,6 +24,7 @@ use Rattle.stopped_volume.specs.Device.{owner_with}
 use Rattle.plain_disk.specs.State.{PlainState, created_volume}
 use Rattle.plain_disk.specs.Valid.{IsPlainVolume}
 use Rattle.plain_disk.proofs.EventLemmas.{created_is}
+use Rattle.plain_disk.proofs.FirstLemmas.{first_with, created_has_first}
 use Rattle.refine_log.specs.Shows.{ShowsLog}
 use Rattle.refine_log.specs.Fuses.{fuse_in}
 use Rattle.refine_log.specs.Logged.{HasLoggedEntries}
@@ -51,7 +52,7 @@ passing_is_plain left plain is = record {
   window = is.window;
   last = is.last;
   opened = is.opened;
-  numbered = is.numbered;
+  begun = is.begun;
   checkpoint = is.checkpoint;
   log = is.log;
   size = is.size;
@@ -95,6 +96,8 @@ created_shows objects log uuid epoch geometry old limits sectors formatted batch
       log = subst (λ n. ShowsLog log (empty_from n 0)) size (formatted_shows_empty uuid epoch 0 old log (search rules)
           (search rules) formatted);
       logged = created_logged data_at geometry left log formatted.first formatted.rows formatted.entries;
+      alone =
+          first_with (created_volume geometry) [] (passing left (created_volume geometry)).cache [] (created_has_first geometry);
       checkpoint = refl;
       pins = λ number. refl;
       fuse = refl;

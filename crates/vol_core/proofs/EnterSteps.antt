@@ -37,6 +37,7 @@ use Rattle.plain_disk.specs.Entries.{reply_of_full, batch_refusal, batch_refusal
 use Rattle.plain_disk.specs.Step.{plain_reply, is_refusal}
 use Rattle.plain_disk.proofs.EndLemmas.{frontier_ends}
 use Rattle.plain_disk.proofs.EventLemmas.{entering_keeps}
+use Rattle.plain_disk.proofs.FirstLemmas.{first_with}
 use Rattle.refine_log.specs.Shows.{ShowsLog}
 use Rattle.refine_log.specs.Logged.{HasLoggedEntries}
 use Rattle.refine_log.specs.Fuses.{fuse_in}
@@ -190,6 +191,7 @@ module _ {R : Type 0} (state : R → ReceiptState) (reply : Reply R) (old : Volu
         log = subst (ShowsLog log) (sym parts.does.log_is) parts.has_log;
         logged = subst (λ (l : List Entry). HasLoggedEntries parts.data_at log (record plain { entries = l; cache = now.cache }))
             entries logged;
+        alone = first_with plain now.entries now.cache plain.pins shows.alone;
         checkpoint = shows.checkpoint;
         pins = shows.pins;
         fuse = refl;
@@ -423,6 +425,7 @@ module _ {R : Type 0} (state : R → ReceiptState) (entry : Entry) (old : Volume
                 shows.log);
             logged = subst (λ l. HasLoggedEntries shows.data_at l plain) (sym is)
                 (logged_alike shows.data_at old.log before plain refl refl refl shows.logged);
+            alone = shows.alone;
             checkpoint = shows.checkpoint;
             pins = shows.pins;
             fuse = shows.fuse ∙ sym (ap (λ (l : LogState). fuse_in l.commits.disk.budget) is);

@@ -16,6 +16,7 @@ use Rattle.plain_disk.specs.Cache.{passes_commit}
 use Rattle.plain_disk.specs.State.{PlainState, history_length}
 use Rattle.plain_disk.specs.Entries.{flush_reply, after_flush}
 use Rattle.plain_disk.proofs.EventLemmas.{flush_keeps}
+use Rattle.plain_disk.proofs.FirstLemmas.{first_with}
 use Rattle.refine_log.specs.Fuses.{fuse_in}
 use Rattle.refine_objects.proofs.ShowLemmas.{shown_have_counts, shown_with_other_cache}
 use Rattle.refine_log.specs.Pending.{ShowsPending}
@@ -75,6 +76,7 @@ module _ (old : VolumeState) (log : LogState) (is_made : Bool) (plain : PlainSta
         objects = shown_with_other_cache shows.data_at old.objects plain flushed.cache plain.pins shows.objects;
         log = commit.commits.log;
         logged = record { first = logged.first; rows = logged.rows; entries = logged.entries; placed = logged.placed };
+        alone = first_with plain plain.entries flushed.cache plain.pins shows.alone;
         checkpoint = shows.checkpoint;
         pins = shows.pins;
         fuse = refl;

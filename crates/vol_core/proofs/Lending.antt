@@ -4,6 +4,7 @@ use Rattle.commit_slot.specs.Commits.{with_budget}
 use Rattle.cache_log.specs.Log.{LogState}
 use Rattle.obj_log.specs.State.{ObjLogState}
 use Rattle.plain_disk.specs.State.{PlainState}
+use Rattle.plain_disk.proofs.FirstLemmas.{first_with}
 use Rattle.refine_log.specs.Fuses.{fuse_in}
 use Rattle.refine_objects.proofs.ShowLemmas.{shown_with_other_cache}
 use Rattle.vol_core.specs.Volume.{VolumeState, volume_of, with_budget_of}
@@ -39,6 +40,7 @@ shows_passing disk volume plain shows = record {
     entries = shows.logged.entries;
     placed = shows.logged.placed;
   };
+  alone = first_with plain plain.entries (passing (fuse_in disk.budget) plain).cache plain.pins shows.alone;
   checkpoint = shows.checkpoint;
   pins = shows.pins;
   fuse = refl;

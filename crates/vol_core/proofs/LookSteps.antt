@@ -21,6 +21,7 @@ use Rattle.plain_disk.specs.State.{PlainState}
 use Rattle.plain_disk.specs.Reads.{objects_read, look_calls, planned_read, look_reply, after_look}
 use Rattle.plain_disk.specs.Step.{is_refusal}
 use Rattle.plain_disk.specs.Valid.{IsPlainVolume}
+use Rattle.plain_disk.proofs.FirstLemmas.{first_with}
 use Rattle.refine_log.specs.Fuses.{fuse_in}
 use Rattle.refine_log.proofs.Shown.{same_shows_same}
 use Rattle.refine_objects.proofs.ShowLemmas.{shown_have_counts, shown_with_other_cache}
@@ -64,7 +65,7 @@ still_plain left pins plain is = record {
   window = is.window;
   last = is.last;
   opened = is.opened;
-  numbered = is.numbered;
+  begun = is.begun;
   checkpoint = is.checkpoint;
   log = is.log;
   size = is.size;
@@ -84,6 +85,7 @@ looked_shown old log pins now_pins plain shows same commits pinned =
       logged =
           logged_with shows.data_at log plain cache now_pins
           (logged_alike shows.data_at old.log log plain same.first same.rows same.entries shows.logged);
+      alone = first_with plain plain.entries cache now_pins shows.alone;
       checkpoint = shows.checkpoint;
       pins = pinned;
       fuse = refl;
@@ -100,6 +102,7 @@ unlooked_shown old log pins plain shows same pinned =
       objects = shows.objects;
       log = shows.log;
       logged = shows.logged;
+      alone = shows.alone;
       checkpoint = shows.checkpoint;
       pins = λ number. pinned number ∙ shows.pins number;
       fuse = shows.fuse;

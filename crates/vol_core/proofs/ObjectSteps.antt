@@ -15,13 +15,16 @@ use Rattle.plain_disk.specs.declared.event.PlainEvent.{PlainEvent}
 use Rattle.plain_disk.specs.declared.event.PlainEvent.TheVariants as events
 use Rattle.plain_disk.specs.declared.event.PlainReply.{PlainReply}
 use Rattle.plain_disk.specs.declared.event.PlainReply.TheVariants as replies
-use Rattle.plain_disk.specs.State.{PlainState, stream_in, history_length, frontier_of}
+use Rattle.plain_disk.specs.State.{PlainState, PlainCheckpoint, stream_in, history_length, frontier_of}
+use Rattle.plain_disk.specs.Checkpoints.{sealed_checkpoint, checkpoint_after_done}
 use Rattle.plain_disk.specs.Objects.{seal_reply, after_seal, has_unsealed, is_busy, reply_of_taken, window_after_take, after_take}
 use Rattle.plain_disk.specs.Objects.{done_reply, window_after_done, after_done, window_after_failed, after_failed, status_reply}
 use Rattle.plain_disk.specs.Step.{plain_reply, plain_after, is_refusal}
 use Rattle.plain_disk.specs.Valid.{IsPlainVolume}
 use Rattle.plain_disk.proofs.EndLemmas.{ends_grow}
 use Rattle.plain_disk.proofs.EventLemmas.{seal_keeps, take_keeps, done_keeps, failed_keeps}
+use Rattle.plain_disk.proofs.FirstLemmas.{sealed_is_first, checkpoint_stays, seal_keeps_first, take_keeps_first}
+use Rattle.plain_disk.proofs.FirstLemmas.{done_keeps_first, failed_keeps_first}
 use Rattle.refine_objects.specs.Shows.{ShowsObjects}
 use Rattle.refine_objects.proofs.ShowLemmas.{shown_have_counts, room_shows_same}
 use Rattle.refine_objects.proofs.SealLemmas.{with_sealed, sealed_end, sealed_shows_seal, refused_seal_shows_none}
@@ -103,7 +106,8 @@ status_steps state volume batch writes sealed frontier uploads same writes_is se
     sym (writes_is ∙ (ap (λ (b : BatchState). b.first + length b.entries) same ∙ counts.next)) in
     let last : plain.window.last ≡ sealed = sym (sealed_is ∙ ap (λ (w : WindowState). w.last) shows.objects.window) in
     let reached : frontier_of plain ≡ frontier = sym (frontier_is ∙ counts.frontier) in
-    let newest : plain.checkpoint ≡ volume.checkpoint = sym shows.checkpoint in
+    let newest : (sealed_checkpoint plain).number ≡ volume.checkpoint =
+    ap (λ (c : PlainCheckpoint). c.number) (sealed_is_first plain shows.alone) ∙ sym shows.checkpoint in
     let tells : status_reply plain ≡ replies.Told writes sealed frontier volume.checkpoint = cc in
     inl (quiet_step state Status (told.Told writes sealed frontier volume.checkpoint) plain volume volume events.Status shows refl
     tells shows
@@ -111,12 +115,13 @@ status_steps state volume batch writes sealed frontier uploads same writes_is se
 
 -- ---- the window changes
 
-window_changes : (plain : PlainState) (window : WindowState) → IsPlainVolume plain → frontier_of plain ≤ below_open window
-    → IsOfOtherObjects plain (record plain { window = window })
-window_changes plain window valid grows = record {
+window_changes : (plain : PlainState) (window : WindowState) (checkpoint : PlainCheckpoint) → IsPlainVolume plain
+    → frontier_of plain ≤ below_open window → checkpoint ≡ plain.checkpoint
+    → IsOfOtherObjects plain (record plain { window = window; checkpoint = checkpoint })
+window_changes plain window checkpoint valid grows same = record {
   cache = refl;
   pins = refl;
-  checkpoint = refl;
+  checkpoint = same;
   end = refl;
   entries = refl;
   frontier = ends_grow (stream_in plain) (frontier_of plain) (below_open window) valid.stream.ends grows;
@@ -187,8 +192,11 @@ module _ {R : Type 0} (state : R → ReceiptState) (old : VolumeState) (objects 
       let shown =
       subst (λ o. ShowsObjects shows.data_at o (after_take plain)) (sym taken.2)
       (taken_shows_take shows.data_at old.objects plain number shows.objects taken.0) in
-      let leaves = window_changes plain (window_after_take lowest plain.window) shows.valid (take_leaves lowest plain.window) in
-      let now = objects_shown old objects plain (after_take plain) shows leaves (take_keeps plain lowest shows.valid) shown in
+      let leaves = window_changes plain (window_after_take lowest plain.window) plain.checkpoint shows.valid
+      (take_leaves lowest plain.window) refl in
+      let now =
+      objects_shown old objects plain (after_take plain) shows leaves (take_keeps plain shows.valid)
+      (take_keeps_first plain shows.alone) shown in
       inl (quiet_step state TakeJob (told.Taken job) plain old changed events.TakeJob shows refl
       (ap reply_of_taken found, taken.1) now
       refl refl)
@@ -217,11 +225,11 @@ module _ {R : Type 0} (state : R → ReceiptState) (old : VolumeState) (objects 
       let shown =
       subst (λ o. ShowsObjects shows.data_at o (after_failed (Some number) plain)) (sym returned.1)
       (failed_shows_failed shows.data_at old.objects plain number shows.objects out.started) in
-      let leaves = window_changes plain (window_after_failed (Some number) plain.window) shows.valid
-      (failed_leaves number plain.window) in
+      let leaves = window_changes plain (window_after_failed (Some number) plain.window) plain.checkpoint shows.valid
+      (failed_leaves number plain.window) refl in
       let now =
       objects_shown old objects plain (after_failed (Some number) plain) shows leaves
-      (failed_keeps plain (Some number) shows.valid) shown in
+      (failed_keeps plain (Some number) shows.valid) (failed_keeps_first (Some number) plain shows.alone) shown in
       inl (quiet_step state (JobFailed job) told.Returned plain old changed (events.JobFailed (Some number)) shows
       (Some number, refl, (refl, out))
       (ap (λ b. cond b replies.Returned replies.Nothing) way) now refl refl)
@@ -247,9 +255,12 @@ module _ {R : Type 0} (state : R → ReceiptState) (old : VolumeState) (objects 
       let later = done_frontier data_at old.objects objects plain number job.bytes (state receipt) uploads shows.valid shown out
       own put done.2 in
       let grows = done_leaves number plain.window (omega (arith, counts.frontier, put.settled.frontier, later)) in
-      let leaves = window_changes plain (window_after_done (Some number) plain.window) shows.valid grows in
+      let leaves =
+      window_changes plain (window_after_done (Some number) plain.window) (checkpoint_after_done (Some number) plain) shows.valid
+      grows (checkpoint_stays (Some number) plain shows.alone) in
       let now =
       objects_shown old objects plain (after_done (Some number) plain) shows leaves (done_keeps plain (Some number) shows.valid)
+      (done_keeps_first (Some number) plain shows.alone)
       (done_shows_done data_at old.objects objects plain number job.bytes (state receipt) uploads shows.valid shown out own
       put done.2) in
       let tells : done_reply plain (Some number) ≡ replies.Done frontier =
@@ -267,7 +278,7 @@ module _ {R : Type 0} (state : R → ReceiptState) (old : VolumeState) (objects 
   -- the list changed but for room
   room_shown : (plain : PlainState) → Shows old plain → IsSame old.objects objects → Shows changed plain
   room_shown plain shows same =
-      objects_shown old objects plain plain shows (seal_changes plain false shows.valid) shows.valid
+      objects_shown old objects plain plain shows (seal_changes plain false shows.valid) shows.valid shows.alone
       (room_shows_same shows.data_at old.objects objects plain shows.objects same)
 
   refused : (reply : Reply R) (plain : PlainState) → Shows old plain → IsSame old.objects objects → after_seal plain ≡ plain
@@ -284,7 +295,9 @@ module _ {R : Type 0} (state : R → ReceiptState) (old : VolumeState) (objects 
       let shown = sealed_shows_seal shows.data_at old.objects objects plain uploads shows.valid shows.objects seals.0
       seals.2 seals.3 in
       let leaves = seal_changes plain (has_unsealed plain && not (is_busy plain)) shows.valid in
-      let now = objects_shown old objects plain (after_seal plain) shows leaves (seal_keeps plain shows.valid) shown.0 in
+      let now =
+      objects_shown old objects plain (after_seal plain) shows leaves (seal_keeps plain shows.valid)
+      (seal_keeps_first plain shows.alone) shown.0 in
       inl (quiet_step state Seal (told.Sealed number) plain old changed events.Seal shows refl (shown.1
       ∙ ap replies.Sealed (sym seals.1)) now
       refl leaves.cache)

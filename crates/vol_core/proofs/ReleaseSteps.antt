@@ -13,6 +13,7 @@ use Rattle.plain_disk.specs.State.{PlainState}
 use Rattle.plain_disk.specs.Reads.{are_pinned, without_pins, after_plan_release}
 use Rattle.plain_disk.specs.Valid.{IsPlainVolume}
 use Rattle.plain_disk.proofs.EventLemmas.{release_keeps}
+use Rattle.plain_disk.proofs.FirstLemmas.{first_with}
 use Rattle.refine_log.specs.Logged.{HasLoggedEntries}
 use Rattle.refine_objects.proofs.ShowLemmas.{shown_with_other_cache}
 use Rattle.read_plan.specs.Plan.{PlanState}
@@ -53,6 +54,7 @@ released_shown old pins numbers plain shows are out =
       objects = shown_with_other_cache shows.data_at old.objects plain plain.cache left shows.objects;
       log = shows.log;
       logged = logged_with shows.data_at old.log plain plain.cache left shows.logged;
+      alone = first_with plain plain.entries plain.cache left shows.alone;
       checkpoint = shows.checkpoint;
       pins = λ number.
           out number ∙ (ap (λ n. n - times number numbers) (shows.pins number) ∙ sym (times_without number numbers plain.pins));

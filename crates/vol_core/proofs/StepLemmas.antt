@@ -12,7 +12,8 @@ use Rattle.cache_log.specs.Log.{LogState, next_seq, AreRowsOf}
 use Rattle.obj_log.specs.State.{ObjLogState}
 use Rattle.plain_disk.specs.declared.event.PlainEvent.{PlainEvent}
 use Rattle.plain_disk.specs.Cache.{PlainCache}
-use Rattle.plain_disk.specs.State.{PlainState, frontier_of, frontier_end, logged_entries}
+use Rattle.plain_disk.specs.State.{PlainState, PlainCheckpoint, frontier_of, frontier_end, logged_entries}
+use Rattle.plain_disk.specs.First.{HasFirstCheckpointAlone}
 use Rattle.plain_disk.specs.Step.{plain_reply, plain_after}
 use Rattle.plain_disk.specs.Valid.{IsPlainVolume}
 use Rattle.plain_disk.proofs.EndLemmas.{ends_from}
@@ -42,7 +43,7 @@ passing_keeps left plain valid = record {
   window = valid.window;
   last = valid.last;
   opened = valid.opened;
-  numbered = valid.numbered;
+  begun = valid.begun;
   checkpoint = valid.checkpoint;
   log = valid.log;
   size = valid.size;
@@ -197,14 +198,16 @@ with_objects objects volume = record volume { objects = objects }
 
 pub objects_shown : (old : VolumeState) (objects : ObjLogState) (plain now : PlainState) (shows : Shows old plain)
     → IsOfOtherObjects plain now
-    → IsPlainVolume now → ShowsObjects shows.data_at objects now → Shows (with_objects objects old) now
-objects_shown old objects plain now shows other valid shown = record {
+    → IsPlainVolume now → HasFirstCheckpointAlone now → ShowsObjects shows.data_at objects now
+    → Shows (with_objects objects old) now
+objects_shown old objects plain now shows other valid alone shown = record {
   valid = valid;
   data_at = shows.data_at;
   objects = shown;
   log = subst (λ (cache : PlainCache). ShowsLog old.log cache.log) (sym other.cache) shows.log;
   logged = later_logged shows.data_at old.log plain now shows.valid other shows.logged;
-  checkpoint = shows.checkpoint ∙ sym other.checkpoint;
+  alone = alone;
+  checkpoint = shows.checkpoint ∙ ap (λ (c : PlainCheckpoint). c.number) (sym other.checkpoint);
   pins = λ number. shows.pins number ∙ ap (times number) (sym other.pins);
   fuse = ap (λ (cache : PlainCache). cache.left) other.cache ∙ shows.fuse;
 }

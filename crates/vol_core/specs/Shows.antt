@@ -4,6 +4,7 @@ use Rattle.cache_log.specs.Log.{next_seq}
 use Rattle.cache_log.specs.Committed.{IsOnDisk}
 use Rattle.object_uploads.specs.Order.{IsUploads}
 use Rattle.plain_disk.specs.State.{PlainState}
+use Rattle.plain_disk.specs.First.{HasFirstCheckpointAlone}
 use Rattle.plain_disk.specs.Valid.{IsPlainVolume}
 use Rattle.refine_log.specs.Shows.{ShowsLog}
 use Rattle.refine_log.specs.Fuses.{fuse_in}
@@ -13,15 +14,17 @@ use Rattle.read_plan.specs.Pins.{times}
 use Rattle.vol_core.specs.Volume.{VolumeState, SteppedVolume}
 
 -- A volume shows a plain volume: the list of its entries and objects shows those, the log on its cache shows the plain log, the
--- same objects are pinned, and the device passes the calls that the plain one does, where it tells them. So numbers and counts
--- are the plain volume's always, and bytes where the device and the receipts tell them.
+-- same objects are pinned, and the device passes the calls that the plain one does, where it tells them. It makes no checkpoint
+-- and removes no object. So numbers and counts are the plain volume's always, and bytes where the device and the receipts tell
+-- them.
 pub record Shows (volume : VolumeState) (plain : PlainState) : Type 0 where
   pub valid : IsPlainVolume plain
   pub data_at : ℕ → ℕ
   pub objects : ShowsObjects data_at volume.objects plain
   pub log : ShowsLog volume.log plain.cache.log
   pub logged : HasLoggedEntries data_at volume.log plain
-  pub checkpoint : volume.checkpoint ≡ plain.checkpoint
+  pub alone : HasFirstCheckpointAlone plain
+  pub checkpoint : volume.checkpoint ≡ plain.checkpoint.number
   pub pins : (number : ℕ) → times number volume.pins ≡ times number plain.pins
   pub fuse : plain.cache.left ≡ fuse_in volume.log.commits.disk.budget
 

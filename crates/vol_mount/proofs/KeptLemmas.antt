@@ -27,6 +27,7 @@ use Rattle.plain_disk.specs.declared.log.PlainCommit.{PlainCommit}
 use Rattle.plain_disk.specs.Log.{PlainLog}
 use Rattle.plain_disk.specs.State.{PlainState, history_length}
 use Rattle.plain_disk.specs.Valid.{IsPlainVolume}
+use Rattle.plain_disk.proofs.FirstLemmas.{first_with}
 use Rattle.refine_log.specs.Shows.{ShowsLog}
 use Rattle.refine_log.specs.Fuses.{fuse_in}
 use Rattle.refine_log.specs.Logged.{HasLoggedEntries}
@@ -290,7 +291,7 @@ module _ (uuid : List ℕ) (geometry : Geometry) (epoch : ℕ) (list : ObjLogSta
       done.numbered in
       shown place_of objects new checkpoint now valid of_objects shows_log
       (subst (λ d. HasLoggedEntries d new now) data_same logged)
-      (sym rest.checkpoint_is) rest.pins
+      (first_with plain now.entries now.cache plain.pins rest.alone) (sym rest.checkpoint_is) rest.pins
 
   pub kept_shows_some : (plain : PlainState) × Shows (volume_of objects new [] checkpoint) plain
   kept_shows_some =

@@ -87,7 +87,7 @@ module _ (uuid : List ℕ) (geometry : Geometry) (epoch : ℕ) (list : ObjLogSta
       let of_log : ShowsLog log plain.cache.log = subst (λ (cache : PlainCache). ShowsLog log cache.log) (sym rest.cache)
       shows_empty in
       shown (data_in log a_row) list log checkpoint plain rest.valid (shows (data_in log a_row)) of_log (logs_none plain rest)
-      (sym rest.checkpoint_is) rest.pins
+      rest.alone (sym rest.checkpoint_is) rest.pins
 
   pub lost_shows_some : (plain : PlainState) × Shows (volume_of list log [] checkpoint) plain
   lost_shows_some =

@@ -120,7 +120,7 @@ wide_is geometry limits = grind (arith, nat_tests, limits)
 checkpoint_is : (uuid : List ℕ) (geometry : Geometry) (plain : PlainState) (number : ℕ) (objects : Objects) (checkpoint end : ℕ)
     → IsTrue (is_within_limits geometry) → IsNewestWithEnd (expected_of uuid geometry) objects checkpoint end
     → geometry ≡ sizes_with geometry.log plain.geometry
-    → HasObjects uuid plain number objects → plain.checkpoint ≡ checkpoint
+    → HasObjects uuid plain number objects → plain.checkpoint.number ≡ checkpoint
 checkpoint_is uuid geometry plain number objects checkpoint end limits newest sizes has =
     let is = base_is (expected_of uuid geometry) objects checkpoint end (wide_is geometry limits) newest has.uuid_at
     (stream_in plain) number
@@ -136,7 +136,7 @@ only_none_refuses uuid geometry None checkpoint limits none newest = λ plain nu
 only_none_refuses uuid geometry (Some objects) checkpoint limits none newest = λ plain number stored.
     let is = checkpoint_is uuid geometry plain number objects checkpoint newest.0 limits newest.1 stored.sizes
     stored.objects_are in
-    let more = stored.valid.numbered in
+    let more = stored.valid.checkpoint.numbered in
     absurd (omega (arith, is, more, none))
 
 -- ---- the list
@@ -214,7 +214,7 @@ list_of_told uuid geometry plain number objects log checkpoint limits is from st
       at_rest =
           subst (λ e. R geometry checkpoint e) (sym recovered.end_is)
           (subst (λ c. R geometry c (end_of_object number plain)) first
-          (subst (λ g. R g plain.checkpoint (end_of_object number plain)) (sym sizes) rest));
+          (subst (λ g. R g plain.checkpoint.number (end_of_object number plain)) (sym sizes) rest));
       shows = λ data_at.
           recovered_shows_objects uuid data_at geometry.log plain number objects log stored.valid has
           (subst (λ g. IsListUpTo uuid g log.uploads.window.last log.uploads.queue.end log) sizes is.list)

@@ -14,6 +14,7 @@ use Rattle.stopped_volume.specs.Store.PutState.{Begun}
 use Rattle.stopped_volume.specs.Super.{HasVolume}
 use Rattle.plain_disk.specs.State.{created_volume, stream_in}
 use Rattle.plain_disk.proofs.EventLemmas.{created_is}
+use Rattle.plain_disk.proofs.FirstLemmas.{created_has_first}
 use Rattle.object_recovery.specs.Checkpoints.{expected_of}
 use Rattle.refine_store.specs.Puts.{ArePuts, MayBeLeft}
 use Rattle.refine_store.specs.Stored.{StoreStands}
@@ -147,6 +148,7 @@ module _ (uuid : List ℕ) (geometry : Geometry) (old : Objects) (new_to : IsNew
     may_be_left = record {
       described = has_volume;
       opened = refl;
+      alone = created_has_first geometry;
       opened_first = refl;
       blank_is = refl;
       first = has_first;

@@ -48,6 +48,7 @@ module _ (uuid : List ℕ) (number : ℕ) (old new : Objects) (removes : Removes
     objects_are = record {
       uuid_at = has.objects_are.uuid_at;
       opened = has.objects_are.opened;
+      alone = has.objects_are.alone;
       blank_is = has.objects_are.blank_is;
       stored =
           removal_keeps_stream (expected_of uuid plain.geometry) has.objects_are.uuid_at old new (stream_in plain) number removes
@@ -81,6 +82,7 @@ module _ (uuid : List ℕ) (epoch : ℕ) (old new : Objects) (begun : PutsEpoch 
   next_is_left plain puts left = record {
     described = next_epoch_is_begun uuid plain.geometry epoch old new left.described begun;
     opened = left.opened;
+    alone = left.alone;
     opened_first = left.opened_first;
     blank_is = left.blank_is;
     first = record {

@@ -90,6 +90,10 @@ silent_reply plain (events.JobDone job) silent is =
     (λ e. cc) (λ e. cc) is
 silent_reply plain (events.JobFailed job) silent is =
     either_reply (is_under_way job plain.window) replies.Returned replies.Nothing (λ e. cc) (λ e. cc) is
+silent_reply plain events.SealCheckpoint silent is = cc
+silent_reply plain events.TakeRemove silent is = cc
+silent_reply plain (events.RemoveDone number) silent is = cc
+silent_reply plain (events.RemoveFailed number) silent is = cc
 silent_reply plain events.Status silent is = cc
 
 -- no call of the device fails in it

@@ -104,7 +104,8 @@ module _ (uuid : List ℕ) (epoch : ℕ) (added : List Entry) (plain after : Pla
       let had = opened_in uuid epoch plain stands.puts objects stands.left in
       record {
         described = subst (λ g. HasVolume uuid g epoch objects) (sym geometry) had.described;
-        opened = ap (λ (p : PlainState). p.checkpoint) goes.opens ∙ had.opened ∙ sym number_is;
+        opened = ap (λ (p : PlainState). p.checkpoint.number) goes.opens ∙ had.opened ∙ sym number_is;
+        alone = shown.alone;
         opened_first = number_is ∙ had.opened_first;
         blank_is = ap (λ (p : PlainState). p.opening) goes.opens ∙ had.blank_is
             ∙ ap (λ (g : Geometry). blank g.sectors) (sym geometry);

@@ -8,15 +8,18 @@ use Rattle.object_stream.specs.declared.object.StreamObject.{StreamObject}
 use Rattle.upload_window.specs.Window.{entered}
 use Rattle.plain_disk.specs.declared.event.PlainEvent.{PlainEvent}
 use Rattle.plain_disk.specs.declared.event.PlainEvent.TheVariants.{Write, Zero, Flush, Look, Release, Seal, TakeJob, JobDone}
-use Rattle.plain_disk.specs.declared.event.PlainEvent.TheVariants.{JobFailed, Status}
+use Rattle.plain_disk.specs.declared.event.PlainEvent.TheVariants.{JobFailed, SealCheckpoint, TakeRemove}
+use Rattle.plain_disk.specs.declared.event.PlainEvent.TheVariants.{RemoveDone, RemoveFailed, Status}
 use Rattle.plain_disk.specs.Cache.{passes_entry, after_reads}
-use Rattle.plain_disk.specs.State.{PlainState, frontier_of, folded_to}
+use Rattle.plain_disk.specs.State.{PlainState, PlainCheckpoint, frontier_of, folded_to}
+use Rattle.plain_disk.specs.First.{HasFirstCheckpointAlone}
 use Rattle.plain_disk.specs.Entries.{cache_for, comes_to_log, after_entering}
 use Rattle.plain_disk.specs.Objects.{has_unsealed, is_busy, end_of_next}
 use Rattle.plain_disk.specs.Reads.{look_calls, passes_look, objects_read, are_pinned, without_pins}
 use Rattle.plain_disk.specs.Step.{plain_after}
 use Rattle.plain_disk.specs.Valid.{IsPlainVolume}
 use Rattle.plain_disk.proofs.EventLemmas.{events_keep}
+use Rattle.plain_disk.proofs.FirstLemmas.{checkpoint_stays}
 use Rattle.plain_disk.proofs.FlushLemmas.{events_keep_committed}
 use Rattle.plain_disk.proofs.FoldVolumeLemmas.{folding_keeps}
 use Rattle.plain_disk.proofs.FoldEventLemmas.{folding_commutes_with_events}
@@ -61,27 +64,32 @@ same_objects plain after is =
       objects = ([], objects ∙ sym (append-nil plain.objects));
     }
 
--- an event that enters nothing
+-- an event that enters nothing, and is none of checkpoints and removals
 abbrev pub is_quiet : PlainEvent → Bool
 is_quiet (Write lba body) = false
 is_quiet (Zero lba sectors) = false
+is_quiet SealCheckpoint = false
+is_quiet TakeRemove = false
+is_quiet (RemoveDone number) = false
+is_quiet (RemoveFailed number) = false
 is_quiet event = true
 
-pub quiet_keeps : (plain : PlainState) (event : PlainEvent) → is_quiet event ≡ true → KeepsEntries plain (plain_after event plain)
-quiet_keeps plain (Write lba body) quiet = let bad : ⊥ = cc in absurd bad
-quiet_keeps plain (Zero lba sectors) quiet = let bad : ⊥ = cc in absurd bad
-quiet_keeps plain Flush quiet = same_objects plain (plain_after Flush plain) refl
-quiet_keeps plain (Look lba sectors) quiet =
+pub quiet_keeps : (plain : PlainState) (event : PlainEvent) → HasFirstCheckpointAlone plain → is_quiet event ≡ true
+    → KeepsEntries plain (plain_after event plain)
+quiet_keeps plain (Write lba body) alone quiet = let bad : ⊥ = cc in absurd bad
+quiet_keeps plain (Zero lba sectors) alone quiet = let bad : ⊥ = cc in absurd bad
+quiet_keeps plain Flush alone quiet = same_objects plain (plain_after Flush plain) refl
+quiet_keeps plain (Look lba sectors) alone quiet =
     let after : PlainState = record plain {
       cache = after_reads (look_calls plain lba sectors) plain.cache;
       pins = cond (passes_look plain lba sectors) (plain.pins ++ objects_read plain lba sectors) plain.pins;
     } in
     either_keeps plain (may_transfer plain.geometry lba sectors) after plain (same_objects plain after refl)
     (same_objects plain plain refl)
-quiet_keeps plain (Release numbers) quiet =
+quiet_keeps plain (Release numbers) alone quiet =
     let after : PlainState = record plain { pins = without_pins numbers plain.pins } in
     either_keeps plain (are_pinned numbers plain.pins) after plain (same_objects plain after refl) (same_objects plain plain refl)
-quiet_keeps plain Seal quiet =
+quiet_keeps plain Seal alone quiet =
     let object : StreamObject = record { content = Data; end = end_of_next plain } in
     let after : PlainState = record plain {
       objects = plain.objects ++ object ∷ [];
@@ -90,16 +98,23 @@ quiet_keeps plain Seal quiet =
     } in
     either_keeps plain (has_unsealed plain && not (is_busy plain)) after plain
     (record { opens = refl; objects = (object ∷ [], refl) }) (same_objects plain plain refl)
-quiet_keeps plain TakeJob quiet = same_objects plain (plain_after TakeJob plain) refl
-quiet_keeps plain (JobDone job) quiet = same_objects plain (plain_after (JobDone job) plain) refl
-quiet_keeps plain (JobFailed job) quiet = same_objects plain (plain_after (JobFailed job) plain) refl
-quiet_keeps plain Status quiet = same_objects plain plain refl
+quiet_keeps plain TakeJob alone quiet = same_objects plain (plain_after TakeJob plain) refl
+quiet_keeps plain (JobDone job) alone quiet =
+    let after : PlainState = plain_after (JobDone job) plain in
+    same_objects plain after
+    (ap (λ (c : PlainCheckpoint). record plain { window = after.window; checkpoint = c }) (checkpoint_stays job plain alone))
+quiet_keeps plain (JobFailed job) alone quiet = same_objects plain (plain_after (JobFailed job) plain) refl
+quiet_keeps plain SealCheckpoint alone quiet = let bad : ⊥ = cc in absurd bad
+quiet_keeps plain TakeRemove alone quiet = let bad : ⊥ = cc in absurd bad
+quiet_keeps plain (RemoveDone number) alone quiet = let bad : ⊥ = cc in absurd bad
+quiet_keeps plain (RemoveFailed number) alone quiet = let bad : ⊥ = cc in absurd bad
+quiet_keeps plain Status alone quiet = same_objects plain plain refl
 
-pub quiet_goes_on : (plain : PlainState) (event : PlainEvent) → IsPlainVolume plain → is_quiet event ≡ true
-    → GoesOn [] plain (plain_after event plain)
-quiet_goes_on plain event valid quiet =
+pub quiet_goes_on : (plain : PlainState) (event : PlainEvent) → IsPlainVolume plain → HasFirstCheckpointAlone plain
+    → is_quiet event ≡ true → GoesOn [] plain (plain_after event plain)
+quiet_goes_on plain event valid alone quiet =
     let after : PlainState = plain_after event plain in
-    let keeps = quiet_keeps plain event quiet in
+    let keeps = quiet_keeps plain event alone quiet in
     record {
       opens =
           keeps.opens

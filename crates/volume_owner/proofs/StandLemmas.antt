@@ -14,6 +14,7 @@ use Rattle.object_uploads.specs.State.{SealedState, UploadsState}
 use Rattle.object_uploads.specs.Queue.{HasBytesAt}
 use Rattle.object_uploads.specs.Changes.{index_of}
 use Rattle.plain_disk.specs.State.{PlainState, stream_in}
+use Rattle.plain_disk.specs.First.{HasFirstCheckpointAlone}
 use Rattle.stopped_volume.specs.Objects.{IsCheckpointOf}
 use Rattle.stopped_volume.specs.Store.{PutState, MayHoldPut}
 use Rattle.stopped_volume.specs.Store.PutState.{Acknowledged, Begun, NotBegun}
@@ -26,7 +27,8 @@ use Rattle.refine_store.specs.Stored.{StoreStands}
 -- what a store has of a volume beside the objects past the one at which it opens
 pub record IsOpened (uuid : List ℕ) (epoch : ℕ) (plain : PlainState) (objects : Objects) : Type 0 where
   pub described : HasVolume uuid plain.geometry epoch objects
-  pub opened : plain.checkpoint ≡ plain.number
+  pub opened : plain.checkpoint.number ≡ plain.number
+  pub alone : HasFirstCheckpointAlone plain
   pub opened_first : plain.number ≡ 1
   pub blank_is : plain.opening ≡ blank plain.geometry.sectors
   pub first : IsCheckpointOf (expected_of uuid plain.geometry) objects plain.number plain.end (stream_in plain).opening
@@ -37,6 +39,7 @@ pub opened_in : (uuid : List ℕ) (epoch : ℕ) (plain : PlainState) (puts : ℕ
 opened_in uuid epoch plain puts objects left = record {
   described = left.described;
   opened = left.opened;
+  alone = left.alone;
   opened_first = left.opened_first;
   blank_is = left.blank_is;
   first = left.first;
@@ -154,6 +157,7 @@ module _ (uuid : List ℕ) (epoch : ℕ) (plain : PlainState) (uploads : Uploads
       left = record {
         described = opened.described;
         opened = opened.opened;
+        alone = opened.alone;
         opened_first = opened.opened_first;
         blank_is = opened.blank_is;
         first = opened.first;
@@ -228,6 +232,7 @@ module _ (uuid : List ℕ) (n : ℕ) (bytes : List ℕ) (old new : Objects) (oth
   put_keeps_opened epoch plain past is = record {
     described = put_keeps_volume plain.geometry epoch is.described;
     opened = is.opened;
+    alone = is.alone;
     opened_first = is.opened_first;
     blank_is = is.blank_is;
     first = record {

@@ -12,6 +12,7 @@ use Rattle.plain_disk.specs.declared.log.PlainCommit.{PlainCommit}
 use Rattle.plain_disk.specs.declared.log.PlainRecord.{PlainRecord}
 use Rattle.plain_disk.specs.State.{PlainState, history_length, unsealed_entries}
 use Rattle.plain_disk.specs.Step.{plain_after}
+use Rattle.plain_disk.proofs.FirstLemmas.{first_with}
 use Rattle.refine_log.proofs.Following.{records_count}
 use Rattle.read_plan.specs.Pins.{times}
 use Rattle.read_plan.proofs.PinLemmas.{times_there}
@@ -199,7 +200,9 @@ pub quiet_after : {R : Type 0} (state : R → ReceiptState) (event : Event R) (r
     → (after : PlainState) × Shows new after × GoesOn [] plain after
 quiet_after state event reply plain old new quiet shows (inl s) =
     let ready : PlainState = passing s.left plain in
-    let goes = quiet_goes_on ready s.asked (passing_keeps s.left plain shows.valid) (quiet s.asked s.asks) in
+    let goes =
+    quiet_goes_on ready s.asked (passing_keeps s.left plain shows.valid)
+    (first_with plain plain.entries ready.cache plain.pins shows.alone) (quiet s.asked s.asks) in
     (_, s.shows, goes_on_passing [] s.left _ plain (plain_after s.asked ready) goes)
 quiet_after state event reply plain old new quiet shows (inr n) = (plain, n.shows, goes_on_nothing plain)
 

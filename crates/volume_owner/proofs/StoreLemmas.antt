@@ -27,6 +27,7 @@ use Rattle.plain_disk.specs.Objects.{window_after_failed}
 use Rattle.plain_disk.specs.Reads.{look_calls, passes_look, objects_read, are_pinned, without_pins}
 use Rattle.plain_disk.specs.State.{PlainState}
 use Rattle.plain_disk.specs.Step.{plain_reply, plain_after}
+use Rattle.plain_disk.proofs.FirstLemmas.{first_with}
 use Rattle.stopped_volume.specs.Store.PutState.{Begun}
 use Rattle.refine_store.specs.Puts.{IsObjectOf, state_of_put}
 use Rattle.refine_store.specs.Stored.{StoreStands}
@@ -153,7 +154,8 @@ module _ {R : Type 0} (state : R → ReceiptState) (reply : Reply R) (old new : 
         shows = s.shows;
         goes =
             goes_on_passing [] s.left now plain (plain_after s.asked ready)
-            (quiet_goes_on ready s.asked (passing_keeps s.left plain shows.valid) quiet);
+            (quiet_goes_on ready s.asked (passing_keeps s.left plain shows.valid)
+            (first_with plain plain.entries ready.cache plain.pins shows.alone) quiet);
         window = window;
       }
 

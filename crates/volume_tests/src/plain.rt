@@ -82,7 +82,7 @@ impl Plain {
 fn make(alloc: Global, volume: &mut PlainVolume, made: Step) -> Result<Answer, TestError> {
     match event_of(alloc, made)? {
         Some(event) => step(volume, event),
-        None => Ok(stop(volume, made)),
+        None => Ok(stop(volume, made)?),
     }
 }
 
@@ -116,18 +116,18 @@ fn answered_by(reply: PlainReply) -> Answer {
 }
 
 // Stops the volume, or looks at what it has open.
-fn stop(volume: &mut PlainVolume, step: Step) -> Answer {
-    match step {
+fn stop(volume: &mut PlainVolume, step: Step) -> Result<Answer, AllocError> {
+    Ok(match step {
         Step::Open => Answer::Count(volume.open_objects().len() as u64),
         Step::Pending => Answer::Count(volume.pending().len() as u64),
         Step::Stop(calls) => {
             volume.stop_after(calls);
             Answer::IsStopping(volume.is_stopping())
         }
-        Step::Keep(landed, kept) => mounted(volume.crash_kept(landed, kept)),
-        Step::Lose(landed) => mounted(volume.crash_lost(landed)),
+        Step::Keep(landed, kept) => mounted(volume.crash_kept(landed, kept)?),
+        Step::Lose(landed) => mounted(volume.crash_lost(landed)?),
         _ => Answer::NotAsked,
-    }
+    })
 }
 
 fn mounted((count, number): (u64, u64)) -> Answer {

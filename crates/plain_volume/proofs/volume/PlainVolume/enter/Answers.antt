@@ -49,6 +49,8 @@ invariant_of-self-2 c =
       end = is.end;
       ends = is.ends;
       last = is.last;
+      newest = is.newest;
+      numbers = is.numbers;
     }
 
 pub returns-clause-reply : goal.returns-clause-reply

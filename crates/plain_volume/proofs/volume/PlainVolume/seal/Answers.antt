@@ -1,13 +1,11 @@
-use Rattle.std.proofs.Common.{◌≡◌, ◌≤◌, ◌<◌, ◌+◌, ◌++◌, ◌∷◌, [], List, length, sym, ap, ◌∙◌, arith}
+use Rattle.std.proofs.Common.{◌≡◌, ◌≤◌, ◌<◌, ◌+◌, length, sym, ap, ◌∙◌, arith}
 use Rattle.std.proofs.lemmas.Bool.Decides.{nat_tests}
-use Rattle.object_stream.specs.declared.object.Content.TheVariants.{Data}
-use Rattle.object_stream.specs.declared.object.StreamObject.{StreamObject}
 use Rattle.object_stream.specs.Plain.{stream_of}
 use Rattle.object_stream.specs.Stream.{end_at, last_number, unsealed}
 use Rattle.plain_disk.specs.State.{PlainState, stream_in}
 use Rattle.plain_disk.specs.Objects.{sealed_count}
 use Rattle.plain_volume.specs.Fields.{max_seq}
-use Rattle.plain_volume.proofs.Volumes.{next_end_fits, sealed_fields}
+use Rattle.plain_volume.proofs.Volumes.{next_end_fits}
 use Rattle.plain_volume.proofs.volume.PlainVolume.seal.Goals.{After-end_at}
 use Rattle.plain_volume.proofs.volume.PlainVolume.seal.Goals as goal
 
@@ -27,20 +25,5 @@ end_fits c =
 pub overflow_add-end : goal.overflow_add-end
 overflow_add-end c = omega (arith, end_fits c)
 
-pub invariant_of-self-2 : goal.invariant_of-self-2
-invariant_of-self-2 c =
-    let object : StreamObject = record { content = Data; end = c.end_at.result + c.sealed_count-sealed.result } in
-    let longer : c.push_reserved.new.self.items ≡ c.self.inside.stream.objects.items ++ object ∷ [] =
-    c.push_reserved.ensures.items ∙ ap (λ (xs : List StreamObject). xs ++ object ∷ []) c.reserve.ensures.items in
-    let fits = end_fits (goal.at.invariant_of-self-2 c).After-end_at in
-    let is = c.self.invariant in
-    let sealed = sealed_fields c.self.inside.geometry c.self.inside.stream c.self.inside.last c.push_reserved.new.self.items
-    object is longer fits in
-    record {
-      limits = is.limits;
-      in_range = is.in_range;
-      number = is.number;
-      end = is.end;
-      ends = sealed.0;
-      last = sealed.1;
-    }
+pub seal_object-requires : goal.seal_object-requires
+seal_object-requires c = end_fits (goal.at.seal_object-requires c).After-end_at
