@@ -88,6 +88,7 @@ impl Window {
     pub fn ack(&mut self, number: u64) -> bool
         ensures started { result ≡ is_started number self.old.objects }
         ensures acknowledged { IsTrue result → self.new ≡ acknowledged number self.old }
+        ensures begun { IsTrue result → IsTrue (was_started number self.old.objects) }
         ensures same { result ≡ false → self.new ≡ self.old }
     {
         if !self.is_started(number) {

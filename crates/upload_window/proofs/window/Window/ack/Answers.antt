@@ -1,8 +1,8 @@
-use Rattle.std.proofs.Common.{◌≡◌, Some, None, List, sym, ◌∙◌, ap, subst}
+use Rattle.std.proofs.Common.{◌≡◌, Some, None, List, true, sym, ◌∙◌, ap, subst}
 use Rattle.std.specs.List.{position}
 use Rattle.upload_window.specs.declared.object.OpenObject.{OpenObject}
-use Rattle.upload_window.specs.Window.{WindowState, IsWindow, has_number, without, acknowledged}
-use Rattle.upload_window.proofs.Starts.{window_without}
+use Rattle.upload_window.specs.Window.{WindowState, IsWindow, has_number, without, acknowledged, is_started, was_started}
+use Rattle.upload_window.proofs.Starts.{window_without, started_were}
 use Rattle.upload_window.proofs.Places.{blank, first_place, nowhere, removed_at, removed_none}
 use Rattle.upload_window.proofs.window.Window.ack.Goals.{After-remove}
 use Rattle.upload_window.proofs.window.Window.ack.Goals as goal
@@ -35,3 +35,19 @@ returns-in_default-clause-acknowledged c done =
     sym c.self.view_is
     ∙ ap (λ (xs : List OpenObject). let w : WindowState = record { last = c.self.inside.last; objects = xs } in w) same
     ∙ ap (λ w. acknowledged c.args.number w) c.self.view_is
+
+pub returns-in-Some-clause-begun : goal.returns-in-Some-clause-begun
+returns-in-Some-clause-begun c done =
+    let window : WindowState = record { last = c.self.inside.last; objects = c.self.inside.objects.items } in
+    let started = subst (λ (w : WindowState). is_started c.args.number w.objects ≡ true) (sym c.self.view_is)
+    (sym c.if-not-is_started.ensures) in
+    subst (λ (w : WindowState). was_started c.args.number w.objects ≡ true) c.self.view_is
+    (started_were window c.self.invariant.starts c.args.number started)
+
+pub returns-in_default-clause-begun : goal.returns-in_default-clause-begun
+returns-in_default-clause-begun c done =
+    let window : WindowState = record { last = c.self.inside.last; objects = c.self.inside.objects.items } in
+    let started = subst (λ (w : WindowState). is_started c.args.number w.objects ≡ true) (sym c.self.view_is)
+    (sym c.if-not-is_started.ensures) in
+    subst (λ (w : WindowState). was_started c.args.number w.objects ≡ true) c.self.view_is
+    (started_were window c.self.invariant.starts c.args.number started)
