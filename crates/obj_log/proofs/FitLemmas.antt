@@ -1,56 +1,85 @@
--- The rows of a data object fit the maps.
-use Rattle.std.proofs.Common.{◌≡◌, ℕ, ◌+◌, ◌<◌, ◌≤◌, ◌^◌, ◌&&◌, nat_le, None, List, length, drop, sym, ◌∙◌, ap, subst, arith}
-use Rattle.std.specs.Prelude.{IsTrue}
+-- The rows of a data object fit the volume, and what was sealed of a batch.
+use Rattle.std.proofs.Common.{◌≡◌, ℕ, ◌+◌, ◌≤◌, ◌&&◌, nat_le, Option, Some, None, List, [], ◌∷◌, length, drop, sym, ◌∙◌, ap}
+use Rattle.std.proofs.Common.{subst, arith}
+use Rattle.std.specs.Prelude.{IsTrue, IfSome}
 use Rattle.std.specs.Global.{Vec}
+use Rattle.std.specs.List.{AllByRecursion}
 use Rattle.std.proofs.lemmas.Bool.Decides.{nat_tests}
 use Rattle.object_format.specs.declared.data_row.DataRow.{DataRow}
 use Rattle.object_format.specs.declared.header.Header.{Header}
 use Rattle.object_format.specs.declared.expected.Expected.{Expected}
 use Rattle.object_format.specs.declared.rows.Rows.TheVariants.{Data}
 use Rattle.object_format.specs.Header.{most_rows}
+use Rattle.object_format.specs.Object.{IsObject}
+use Rattle.object_format.specs.Rows.{payload_at, data_payload, is_at, data_may_stand, data_rows_may_stand}
 use Rattle.object_format.specs.Writing.{object_header_of}
-use Rattle.lsvd_base.specs.Limits.{is_within_limits}
 use Rattle.object_stream.specs.Replay.{HasParts}
-use Rattle.volume_maps.proofs.FitLemmas.{rows_fit}
-use Rattle.batcher.specs.State.{BatchState}
 use Rattle.batcher.specs.declared.sealing.SealedBatch.{SealedBatch}
 use Rattle.batcher.specs.Sealing as batches
+use Rattle.object_uploads.specs.declared.rows.SealedRows.TheVariants as sealed_rows
 use Rattle.object_uploads.specs.State.{UploadsState}
-use Rattle.object_uploads.specs.Queue.{FitObject}
+use Rattle.object_uploads.specs.Queue.{FitsVolume, FitObject}
 use Rattle.object_uploads.specs.Changes as objects
+use Rattle.batcher.specs.State.{BatchState}
 use Rattle.obj_log.specs.State.{ObjLogState}
 use Rattle.obj_log.specs.Changes.{next_of, HasSealedObject}
 
+-- ---- rows that the grammar lets stand
+
+place_fits : (sectors place payload : ℕ) (at : Option ℕ) → IsTrue (is_at place at)
+    → IsTrue (nat_le (place + payload_at sectors at) payload)
+    → payload ≤ 131071 → IfSome at (λ p. p + sectors ≤ 131071)
+place_fits sectors place payload None is within most = tt
+place_fits sectors place payload (Some at) is within most = grind (arith, nat_tests)
+
+row_fits : (volume payload place : ℕ) (before : Option DataRow) (row : DataRow) → payload ≤ 131071
+    → IsTrue (data_may_stand volume payload before place row) → FitsVolume volume row
+row_fits volume payload place before row most stand = record {
+  sectors_are = grind (arith, nat_tests);
+  place = place_fits row.sectors place payload row.place (grind (arith, nat_tests)) (grind (arith, nat_tests)) most;
+}
+
+rows_fit : (volume payload place : ℕ) (before : Option DataRow) (rows : List DataRow) → payload ≤ 131071
+    → IsTrue (data_rows_may_stand volume payload before place rows) → AllByRecursion (FitsVolume volume) rows
+rows_fit volume payload place before [] most stand = tt
+rows_fit volume payload place before (row ∷ rows) most stand = (
+  row_fits volume payload place before row most (grind (arith, nat_tests)),
+  rows_fit volume payload (place + data_payload row) (Some row) rows most (grind (arith, nat_tests)),
+)
+
+-- ---- the rows of an object
+
 -- as the header of an object of the grammar says, it has at most that many
-few_rows : (expected : Expected) (bytes : List ℕ) (head : Header) (rows : Vec DataRow) (payload : List ℕ)
-    → HasParts expected bytes head (Data rows) payload
+few_rows : (bytes : List ℕ) (size : ℕ) (expected : Expected) (head : Header) (rows : Vec DataRow)
+    → IsObject bytes size expected head (Data rows)
     → length rows.items ≤ 65536
-few_rows expected bytes head rows payload parts =
+few_rows bytes size expected head rows is =
     let limits = subst (λ k. IsTrue (nat_le head.rows (most_rows expected.sectors k) && nat_le head.payload 131071))
-    (sym parts.is_object.rows_are.kind) parts.is_object.head.limits in
-    let count : length rows.items ≡ head.rows = parts.is_object.rows_are.count in
+    (sym is.rows_are.kind) is.head.limits in
+    let count : length rows.items ≡ head.rows = is.rows_are.count in
     grind (arith, nat_tests)
 
--- the rows of an object fit that is the expected one of a volume within the limits
-pub sealed_fit : (log : ObjLogState) (expected : Expected) (bytes : List ℕ) (head : Header) (rows : Vec DataRow)
-    (payload : List ℕ)
-    → expected ≡ next_of log → IsTrue (is_within_limits log.batch.geometry) → HasParts expected bytes head (Data rows) payload
-    → FitObject rows.items
-sealed_fit log expected bytes head rows payload next limits parts =
-    let same : expected.sectors ≡ log.batch.geometry.sectors = ap (λ (e : Expected). e.sectors) next in
-    let low : log.batch.geometry.sectors < 2 ^ 63 = grind (arith, nat_tests) in
-    let most : head.payload ≤ 131071 = grind (arith, nat_tests, parts.is_object.head.limits) in
+-- For the proofs of callers too: the rows of an object fit the volume that is expected.
+pub object_fits : (bytes : List ℕ) (size : ℕ) (expected : Expected) (head : Header) (rows : Vec DataRow)
+    → IsObject bytes size expected head (Data rows) → FitObject expected.sectors rows.items
+object_fits bytes size expected head rows is =
+    let most : head.payload ≤ 131071 = grind (arith, nat_tests, is.head.limits) in
     record {
-      count = few_rows expected bytes head rows payload parts;
-      fit = rows_fit expected.sectors head.payload 0 None rows.items (omega (arith, same, low)) most
-          parts.is_object.rows_are.spelling;
+      count = few_rows bytes size expected head rows is;
+      fit = rows_fit expected.sectors head.payload 0 None rows.items most is.rows_are.spelling;
     }
+
+pub sealed_fit : (expected : Expected) (bytes : List ℕ) (head : Header) (rows : Vec DataRow) (payload : List ℕ)
+    → HasParts expected bytes head (Data rows) payload → FitObject expected.sectors rows.items
+sealed_fit expected bytes head rows payload parts = object_fits bytes (length bytes) expected head rows parts.is_object
+
+-- ---- sealing
 
 -- what was sealed of a batch, entered, and released
 pub is_sealed : (old : ObjLogState) (expected : Expected) (sealed : SealedBatch) (end : ℕ) (batch : BatchState)
     (uploads : UploadsState)
     → expected ≡ next_of old → batches.IsSealed old.batch expected sealed → end ≡ old.batch.first + sealed.entries
-    → objects.IsSealedNext sealed.object sealed.rows.items end old.uploads uploads
+    → objects.IsSealedNext sealed.object (sealed_rows.Data sealed.rows) end old.uploads uploads
     → batch.geometry ≡ old.batch.geometry → batch.first ≡ old.batch.first + sealed.rest.after
     → batch.entries ≡ drop sealed.rest.after old.batch.entries
     → HasSealedObject old (record { batch = batch; uploads = uploads })

@@ -1,4 +1,3 @@
-pub mod EndLemmas
 pub mod FitLemmas
 pub mod StreamLemmas
 pub mod ImageLemmas

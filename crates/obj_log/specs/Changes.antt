@@ -10,6 +10,7 @@ use Rattle.object_format.specs.Writing.{object_header_of}
 use Rattle.object_stream.specs.Changes.{change_at, change_in}
 use Rattle.object_stream.specs.Replay.{HasParts, expected_at}
 use Rattle.batcher.specs.Batch.{IsSealedCount}
+use Rattle.object_uploads.specs.declared.rows.SealedRows.TheVariants as sealed_rows
 use Rattle.object_uploads.specs.Queue.{IsEntered, HasRoomForEntry}
 use Rattle.object_uploads.specs.Changes as uploads
 use Rattle.obj_log.specs.State.{ObjLogState}
@@ -34,6 +35,7 @@ pub record IsAdded (entry : Entry) (data_at : ℕ) (old new : ObjLogState) : Typ
   pub entered : IsEntered entry (old.batch.first + length old.batch.entries) data_at old.uploads.queue new.uploads.queue
   pub window : new.uploads.window ≡ old.uploads.window
   pub uuid : new.uploads.uuid ≡ old.uploads.uuid
+  pub sectors : new.uploads.sectors ≡ old.uploads.sectors
 
 -- ---- sealing
 
@@ -62,7 +64,7 @@ pub record HasSealedObject (old new : ObjLogState) : Type 0 where
   pub parts : HasParts (next_of old) bytes (object_header_of (next_of old) old.batch.first (old.batch.first + count) (Data rows))
       (Data rows) payload
   pub changes : (k : ℕ) → change_in rows.items payload k ≡ change_at (take count old.batch.entries) k
-  pub uploads : uploads.IsSealedNext bytes rows.items (old.batch.first + count) old.uploads new.uploads
+  pub uploads : uploads.IsSealedNext bytes (sealed_rows.Data rows) (old.batch.first + count) old.uploads new.uploads
   pub geometry : new.batch.geometry ≡ old.batch.geometry
   pub first : new.batch.first ≡ old.batch.first + count
   pub entries : new.batch.entries ≡ drop count old.batch.entries

@@ -6,12 +6,10 @@ use Rattle.lsvd_base.specs.Image.{Image, blank, after}
 use Rattle.lsvd_base.specs.Laws.{EndsBy}
 use Rattle.lsvd_objstore.specs.Store.{ReceiptState}
 use Rattle.object_format.specs.declared.data_row.DataRow.{DataRow}
-use Rattle.object_stream.specs.declared.object.StreamObject.{StreamObject}
 use Rattle.object_stream.specs.Stream.{Stream}
-use Rattle.object_uploads.specs.Queue.{just_sealed}
 use Rattle.object_uploads.specs.Order.{IsUploads}
 use Rattle.object_uploads.specs.Changes.{with_job, IsOut, IsPutDone}
-use Rattle.object_uploads.specs.Stream.{IsSealedOf}
+use Rattle.object_uploads.specs.Stream.{HoldsEntries}
 use Rattle.object_uploads.specs.Image.{HasImage, IsReceiptFor, HasOwnReceipts}
 use Rattle.object_uploads.specs.ImageLaws.{KeepsImage, settled_entries}
 use Rattle.obj_log.specs.State.{ObjLogState}
@@ -46,7 +44,7 @@ abbrev pub DoneMakesImageOfList : Type 0
 DoneMakesImageOfList =
     (data_at : ℕ → ℕ) (stream : Stream) (old new : ObjLogState) (number : ℕ) (bytes : List ℕ) (receipt : ReceiptState)
     (image : Image)
-    → IsUploads old.uploads.queue old.uploads.window → IsOfStream data_at stream old
+    → IsUploads old.uploads → IsOfStream data_at stream old
     → IsPutDone number receipt old.uploads new.uploads → IsOut old.uploads number bytes → IsReceiptFor bytes receipt
     → HasOwnReceipts old.uploads.queue
     → All (EndsBy (length image)) (settled_entries stream old.uploads.queue new.uploads.queue)
@@ -57,9 +55,9 @@ DoneMakesImageOfList =
 -- and by an object that is adopted that after its entries
 abbrev pub AdoptingMakesImageOfList : Type 0
 AdoptingMakesImageOfList =
-    (data_at : ℕ → ℕ) (stream : Stream) (old new : ObjLogState) (entries : List Entry) (object : StreamObject) (bytes : List ℕ)
+    (data_at : ℕ → ℕ) (stream : Stream) (old new : ObjLogState) (entries : List Entry) (bytes : List ℕ)
     (rows : List DataRow) (end : ℕ) (receipt : ReceiptState) (image : Image)
-    → IsUploads old.uploads.queue old.uploads.window → IsOfStream data_at stream old → old.uploads.queue.sealed ≡ []
-    → IsSealedOf (next_of old) entries object (just_sealed bytes rows end)
+    → IsUploads old.uploads → IsOfStream data_at stream old → old.uploads.queue.sealed ≡ []
+    → HoldsEntries (next_of old) entries end bytes rows
     → HasAdoptedObject rows end receipt old new → IsReceiptFor bytes receipt → All (EndsBy (length image)) entries
     → HasImage image old.uploads.queue → HasImage (after image entries) new.uploads.queue × HasOwnReceipts new.uploads.queue

@@ -1,29 +1,32 @@
 -- Contract: what the calls keep of a stream.
-use Rattle.std.specs.Prelude.{◌≡◌, ℕ, ◌+◌, ◌<◌, Bool, None, List, [], length}
+use Rattle.std.specs.Prelude.{◌≡◌, ℕ, ◌+◌, ◌<◌, Bool, List, [], length}
 use Rattle.lsvd_base.specs.declared.entry.Entry.{Entry}
 use Rattle.lsvd_objstore.specs.Store.{ReceiptState}
 use Rattle.object_format.specs.declared.data_row.DataRow.{DataRow}
-use Rattle.object_stream.specs.declared.object.Content.TheVariants.{Data}
-use Rattle.object_stream.specs.Stream.{Stream}
+use Rattle.object_stream.specs.Stream.{Stream, Owners}
+use Rattle.volume_maps.specs.Maps.{settled_at}
+use Rattle.volume_maps.specs.Laws.{place_owner}
 use Rattle.object_uploads.specs.Order.{IsUploads}
 use Rattle.object_uploads.specs.Changes.{with_job, IsPutDone}
-use Rattle.object_uploads.specs.Queue.{just_sealed}
-use Rattle.object_uploads.specs.Stream.{IsSealedOf}
-use Rattle.object_uploads.specs.Laws.{with_entry, with_data_object, with_adopted}
+use Rattle.object_uploads.specs.Checkpoint.{HasSealedCheckpoint}
+use Rattle.object_uploads.specs.Removal.{IsSameButObjects}
+use Rattle.object_uploads.specs.Stream.{HoldsEntries}
+use Rattle.object_uploads.specs.Laws.{with_entry, with_data_object, with_checkpoint, with_adopted}
 use Rattle.obj_log.specs.State.{ObjLogState}
 use Rattle.obj_log.specs.Changes.{next_of, IsSame, IsAdded, HasSealedObject, HasAdoptedObject}
 use Rattle.obj_log.specs.Stream.{IsOfStream}
 
--- a list that was just made, whose objects up to this number have the entries up to this end, is that of a stream that begins
--- there
+-- a list without entries, whose objects up to this number have the entries up to this end, is that of a stream that begins there,
+-- with the owners of the objects' map
 abbrev pub NewListBeginsStream : Type 0
 NewListBeginsStream =
-    (data_at : ℕ → ℕ) (log : ObjLogState) (number end : ℕ)
-    → log.batch.first ≡ end → log.batch.entries ≡ []
+    (data_at : ℕ → ℕ) (log : ObjLogState) (number end : ℕ) (opening : Owners)
+    → log.batch.first ≡ end → log.batch.entries ≡ [] → log.uploads.sectors ≡ log.batch.geometry.sectors
     → log.uploads.window ≡ record { last = number; objects = [] } → log.uploads.queue.frontier ≡ number
     → log.uploads.queue.end ≡ end
-    → log.uploads.queue.sealed ≡ [] → log.uploads.queue.maps.settled.rows ≡ [] → log.uploads.queue.maps.log.rows ≡ []
-    → IsOfStream data_at (record { number = number; end = end; opening = λ k. None; entries = []; objects = [] }) log
+    → log.uploads.queue.sealed ≡ [] → log.uploads.queue.maps.log.rows ≡ []
+    → IsUploads log.uploads → ((k : ℕ) → place_owner (settled_at log.uploads.queue.maps k) ≡ opening k)
+    → IsOfStream data_at (record { number = number; end = end; opening = opening; entries = []; objects = [] }) log
 
 -- a list of a stream stays that while nothing changes but room
 abbrev pub RoomKeepsStreamOfList : Type 0
@@ -35,17 +38,31 @@ RoomKeepsStreamOfList =
 abbrev pub AddingKeepsStreamOfList : Type 0
 AddingKeepsStreamOfList =
     (data_at : ℕ → ℕ) (stream : Stream) (old new : ObjLogState) (entry : Entry)
-    → IsUploads old.uploads.queue old.uploads.window → IsOfStream data_at stream old
+    → IsUploads old.uploads → IsOfStream data_at stream old
     → IsAdded entry (data_at (stream.end + length stream.entries)) old new → IsOfStream data_at (with_entry entry stream) new
 
 -- and, once some were sealed, that of the stream with a data object more, which ends where the batch begins then
 abbrev pub SealingKeepsStreamOfList : Type 0
 SealingKeepsStreamOfList =
     (data_at : ℕ → ℕ) (stream : Stream) (old new : ObjLogState)
-    → IsUploads old.uploads.queue old.uploads.window → IsOfStream data_at stream old
+    → IsUploads old.uploads → IsOfStream data_at stream old
     → HasSealedObject old new → IsOfStream data_at (with_data_object new.batch.first stream) new
 
--- while puts begin, fail and are done it stays that of the stream
+-- of the stream with a checkpoint more, once one was sealed
+abbrev pub SealingCheckpointKeepsStreamOfList : Type 0
+SealingCheckpointKeepsStreamOfList =
+    (data_at : ℕ → ℕ) (stream : Stream) (old new : ObjLogState)
+    → IsUploads old.uploads → IsOfStream data_at stream old
+    → HasSealedCheckpoint old.uploads new.uploads → new.batch ≡ old.batch → IsOfStream data_at (with_checkpoint stream) new
+
+-- while objects are pinned, and while removals begin, fail and are done, it stays that of the stream
+abbrev pub RemovalsKeepStreamOfList : Type 0
+RemovalsKeepStreamOfList =
+    (data_at : ℕ → ℕ) (stream : Stream) (old new : ObjLogState)
+    → IsOfStream data_at stream old → IsSameButObjects old.uploads new.uploads → new.batch ≡ old.batch
+    → IsOfStream data_at stream new
+
+-- and while puts begin, fail and are done
 abbrev pub JobsKeepStreamOfList : Type 0
 JobsKeepStreamOfList =
     (data_at : ℕ → ℕ) (stream : Stream) (log : ObjLogState) (number : ℕ) (started : Bool)
@@ -54,7 +71,7 @@ JobsKeepStreamOfList =
 abbrev pub DoneKeepsStreamOfList : Type 0
 DoneKeepsStreamOfList =
     (data_at : ℕ → ℕ) (stream : Stream) (old new : ObjLogState) (number : ℕ) (receipt : ReceiptState)
-    → IsUploads old.uploads.queue old.uploads.window → IsOfStream data_at stream old
+    → IsUploads old.uploads → IsOfStream data_at stream old
     → IsPutDone number receipt old.uploads new.uploads → new.batch ≡ old.batch → IsOfStream data_at stream new
 
 -- Where all objects are acknowledged, and no entry is in the batch, it is that of the stream with the next entries in a data
@@ -63,9 +80,9 @@ abbrev pub AdoptingKeepsStreamOfList : Type 0
 AdoptingKeepsStreamOfList =
     (data_at : ℕ → ℕ) (stream : Stream) (old new : ObjLogState) (entries : List Entry) (bytes : List ℕ) (rows : List DataRow)
     (end : ℕ) (receipt : ReceiptState)
-    → IsUploads old.uploads.queue old.uploads.window → IsOfStream data_at stream old → old.uploads.queue.sealed ≡ []
+    → IsUploads old.uploads → IsOfStream data_at stream old → old.uploads.queue.sealed ≡ []
     → old.batch.entries ≡ []
     → end ≡ old.batch.first + length entries → 0 < length entries
-    → IsSealedOf (next_of old) entries (record { content = Data; end = end }) (just_sealed bytes rows end)
+    → HoldsEntries (next_of old) entries end bytes rows
     → HasAdoptedObject rows end receipt old new
     → IsOfStream data_at (with_adopted entries end stream) new

@@ -1,5 +1,6 @@
 pub mod State
 pub mod Changes
 pub mod Stream
+pub mod Lending
 pub mod Laws
 pub mod ImageLaws

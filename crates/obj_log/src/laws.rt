@@ -1,19 +1,23 @@
 ghost use Rattle.obj_log.specs.Laws.{NewListBeginsStream, RoomKeepsStreamOfList, AddingKeepsStreamOfList};
-ghost use Rattle.obj_log.specs.Laws.{SealingKeepsStreamOfList};
+ghost use Rattle.obj_log.specs.Laws.{SealingKeepsStreamOfList, SealingCheckpointKeepsStreamOfList};
+ghost use Rattle.obj_log.specs.Laws.{RemovalsKeepStreamOfList};
 ghost use Rattle.obj_log.specs.Laws.{JobsKeepStreamOfList, DoneKeepsStreamOfList, AdoptingKeepsStreamOfList};
 ghost use Rattle.obj_log.specs.ImageLaws.{NewListHasBlank, RoomKeepsImageOfList, AddingKeepsImageOfList};
 ghost use Rattle.obj_log.specs.ImageLaws.{SealingKeepsImageOfList};
 ghost use Rattle.obj_log.specs.ImageLaws.{JobsKeepImageOfList, DoneMakesImageOfList};
 ghost use Rattle.obj_log.specs.ImageLaws.{AdoptingMakesImageOfList};
 
-/// A law: a list that was just made is that of a stream without entries and objects. It stays that of a
-/// stream while nothing changes but room, while entries are added, the first of them are sealed, and puts
-/// begin, fail and are done, in any order, and while objects of the next entries are adopted.
+/// A law: a list that was just made, or began with a checkpoint, is that of a stream without entries and
+/// objects. It stays that of a stream while nothing changes but room, while entries are added, the first of
+/// them and checkpoints are sealed, puts begin, fail and are done, in any order, objects are pinned, and
+/// removals begin, fail and are done, and while objects of the next entries are adopted.
 pub fn the_list_stays_a_stream()
     ensures begins { NewListBeginsStream }
     ensures same { RoomKeepsStreamOfList }
     ensures added { AddingKeepsStreamOfList }
     ensures sealed { SealingKeepsStreamOfList }
+    ensures checkpoint { SealingCheckpointKeepsStreamOfList }
+    ensures removals { RemovalsKeepStreamOfList }
     ensures jobs { JobsKeepStreamOfList }
     ensures done { DoneKeepsStreamOfList }
     ensures adopted { AdoptingKeepsStreamOfList }

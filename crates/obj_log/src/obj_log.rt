@@ -1,27 +1,24 @@
-ghost use Rattle.std.specs.Prelude.{◌≡◌, ◌+◌, ◌-◌, ◌<◌, ◌≤◌, ◌^◌, ℕ, ◌↔◌, [], length, option_map, Err};
-ghost use Rattle.std.specs.Prelude.{IsTrue, IsOk, IsErr, IfOk, IfErr, IfSome, IfNone, OnOk, OnErr, true};
-ghost use Rattle.std.specs.Prelude.{false};
-ghost use Rattle.std.specs.List.{sum_by, slice_get};
+ghost use Rattle.std.specs.Prelude.{◌≡◌, ◌+◌, ◌-◌, ◌<◌, ◌≤◌, ◌^◌, ◌↔◌, [], length, None, Err};
+ghost use Rattle.std.specs.Prelude.{IsTrue, IsOk, IfOk, OnOk, OnErr};
+ghost use Rattle.std.specs.Borrow.{sem};
+ghost use Rattle.std.specs.List.{sum_by};
 ghost use Rattle.lsvd_base.specs.Limits.{is_within_limits};
 ghost use Rattle.lsvd_base.specs.Range.{is_in_range};
 ghost use Rattle.lsvd_base.specs.Laws.{sector_count};
-ghost use Rattle.object_stream.specs.Replay.{object_name};
-ghost use Rattle.upload_window.specs.Window.{lowest_ready};
 ghost use Rattle.batcher.specs.Batch.{data_sectors};
-ghost use Rattle.object_uploads.specs.Queue.{FitObject, HasRoomForObject};
+ghost use Rattle.lsvd_names.specs.Names.{numbered_name};
+ghost use Rattle.object_uploads.specs.Queue.{FitObject};
 ghost use Rattle.object_uploads.specs.Order.{IsUploads};
-ghost use Rattle.object_uploads.specs.Changes.{with_job, IsJobOf, IsOut, IsPutDone};
 ghost use Rattle.obj_log.specs.declared.error.SealError.TheVariants as errors;
-ghost use Rattle.obj_log.specs.State.{ObjLogState};
 ghost use Rattle.obj_log.specs.Changes.{HasRoomToAdd, IsSame, IsAdded, HasSealedObject, HasAdoptedObject};
-ghost use Rattle.obj_log.specs.Changes.{expected_of_volume, next_of};
+ghost use Rattle.obj_log.specs.Changes.{next_of};
 
 use crate::error::SealError;
 use batcher::Batch;
 use lsvd_base::{Entry, Geometry};
 use lsvd_objstore::Receipt;
 use object_format::{DataRow, Expected};
-use object_uploads::{Job, Uploads};
+use object_uploads::Uploads;
 use std::alloc::{AllocError, Global};
 use std::marker::Model;
 use uuid::Uuid;
@@ -35,21 +32,20 @@ pub struct ObjLog<R: Receipt> {
 }
 
 impl<R: Receipt> Model for ObjLog<R> {
-    ghost use Rattle.std.specs.Prelude.{◌≡◌, IsTrue};
+    ghost use Rattle.std.specs.Prelude.{IsTrue};
     ghost use Rattle.lsvd_base.specs.Limits.{is_within_limits};
-    ghost use Rattle.object_uploads.specs.Queue.{end_of_last};
     ghost use Rattle.obj_log.specs.State.{ObjLogState};
 
     ghost Value = { ObjLogState };
 
     ghost view = { λ o. record { batch = o.batch; uploads = o.uploads } };
 
-    ghost invariant = { λ o.
-        IsTrue (is_within_limits o.batch.geometry)
-        × (o.batch.first ≡ end_of_last o.uploads.queue.end o.uploads.queue.sealed) };
+    ghost invariant = { λ o. IsTrue (is_within_limits o.batch.geometry) };
 }
 
 impl<R: Receipt> ObjLog<R> {
+    ghost use Rattle.obj_log.specs.Lending.{LendsUploads};
+
     /// The list of a volume with this uuid whose geometry is within the limits (a condition). Its objects up
     /// to this number are acknowledged, and have the entries up to this end. It takes no memory.
     pub fn new(alloc: Global, uuid: Uuid, geometry: Geometry, number: u64, end: u64) -> ObjLog<R>
@@ -61,17 +57,21 @@ impl<R: Receipt> ObjLog<R> {
           reserved = 0;
         } }
         ensures uuid { result.uploads.uuid ≡ uuid }
+        ensures sectors { result.uploads.sectors ≡ geometry.sectors }
         ensures window { result.uploads.window ≡ record { last = number; objects = [] } }
         ensures frontier { result.uploads.queue.frontier ≡ number }
         ensures end { result.uploads.queue.end ≡ end }
         ensures sealed { result.uploads.queue.sealed ≡ [] }
         ensures receipts { result.uploads.queue.receipts ≡ [] }
+        ensures removal { result.uploads.queue.removal ≡ None }
         ensures settled { result.uploads.queue.maps.settled.rows ≡ [] }
         ensures log { result.uploads.queue.maps.log.rows ≡ [] }
+        ensures objects { result.uploads.queue.maps.objects.rows ≡ [] }
+        ensures checkpoint { result.uploads.queue.maps.objects.checkpoint ≡ 0 }
     {
         ObjLog {
             batch: Batch::new(alloc, geometry, end),
-            uploads: Uploads::new(alloc, uuid, number, end),
+            uploads: Uploads::new(alloc, uuid, geometry.sectors, number, end),
         }
     }
 
@@ -96,7 +96,7 @@ impl<R: Receipt> ObjLog<R> {
         requires sectors { sum_by data_sectors self.old.batch.entries + data_sectors entry < 2 ^ 64 }
         requires places { data_at + sector_count entry < 2 ^ 63 }
         ensures added { IsAdded entry data_at self.old self.new }
-        ensures order { IsUploads self.old.uploads.queue self.old.uploads.window }
+        ensures order { IsUploads self.old.uploads }
     {
         self.uploads.enter(&entry, self.batch.next_seq(), data_at);
         self.batch.add(entry);
@@ -105,9 +105,11 @@ impl<R: Receipt> ObjLog<R> {
     /// Seals the next data object: it has the fewest first entries of the batch that are full, or all where
     /// they are never full. Its number is answered. `Nothing` comes where the batch has no entry, `Busy`
     /// where else 16 objects are on their way to the store. Where memory ran out, but for room nothing
-    /// changes. The numbers go on below 2^64 - 1 (a condition).
+    /// changes. The objects are of a volume as large as the batch's, and the numbers go on below 2^64 - 1
+    /// (conditions).
     pub fn seal_data(&mut self, alloc: Global) -> Result<u64, SealError>
-        requires { self.old.uploads.window.last + 1 < 2 ^ 64 - 1 }
+        requires sectors { self.old.uploads.sectors ≡ self.old.batch.geometry.sectors }
+        requires numbers { self.old.uploads.window.last + 1 < 2 ^ 64 - 1 }
         ensures nothing { (result ≡ Err errors.Nothing) ↔ (self.old.batch.entries ≡ []) }
         ensures busy { (result ≡ Err errors.Busy) ↔ ((0 < length self.old.batch.entries)
             × (length self.old.uploads.window.objects ≡ 16)) }
@@ -132,9 +134,9 @@ impl<R: Receipt> ObjLog<R> {
     /// Counts the next number's object, which is in the store, as acknowledged, and settles it: these are its
     /// rows, the count of entries up to its end, and the receipt that the store gave for it. The batch goes
     /// on at that end. No object is past the frontier, the batch has no entry, the numbers go on below 2^64 -
-    /// 1, the end is not before that of the frontier, and the rows are 65,536 at most, end below 2^63, and
-    /// their places in the object below 2^32 (conditions). The one error is out of memory, which comes only
-    /// where room for it is missing; then nothing changes but room.
+    /// 1, the end is not before that of the frontier, the receipt has the object's name, and the rows are
+    /// 65,536 at most, and lie inside the volume, and their places inside the greatest payload (conditions).
+    /// The one error is out of memory; then nothing changes but room.
     pub fn adopt(
         &mut self,
         alloc: Global,
@@ -146,63 +148,16 @@ impl<R: Receipt> ObjLog<R> {
         requires empty { self.old.batch.entries ≡ [] }
         requires numbers { self.old.uploads.window.last + 1 < 2 ^ 64 - 1 }
         requires order { self.old.uploads.queue.end ≤ end }
-        requires fit { FitObject rows.now }
+        requires fit { FitObject self.old.uploads.sectors rows.now }
+        requires named { (R.state receipt).name ≡ numbered_name self.old.uploads.uuid
+            (self.old.uploads.window.last + 1) }
         ensures adopted { OnOk result (HasAdoptedObject rows.now end (R.state receipt) self.old self.new) }
-        ensures succeeds { HasRoomForObject rows.now self.old.uploads.queue → IsOk result }
         ensures same { OnErr result (IsSame self.old self.new) }
-        ensures order { IsUploads self.old.uploads.queue self.old.uploads.window }
+        ensures order { IsUploads self.old.uploads }
     {
         self.uploads.adopt(rows, end, receipt)?;
         self.batch = Batch::new(alloc, self.batch.geometry(), end);
         Ok(())
-    }
-
-    /// Begins the put of the lowest ready object. None is where no object is ready; then nothing changes. It
-    /// takes no memory.
-    pub fn take_job(&mut self) -> Option<Job>
-        ensures lowest { option_map (λ job. job.name.number) result
-            ≡ lowest_ready self.old.uploads.window.objects }
-        ensures job { IfSome result (λ job. IsJobOf self.old.uploads job.name.number job) }
-        ensures started { IfSome result
-            (λ job. self.new ≡ record self.old {
-              uploads = with_job job.name.number true
-                  self.old.uploads;
-            }) }
-        ensures same { IfNone result (self.new ≡ self.old) }
-    {
-        self.uploads.take_job()
-    }
-
-    /// A put is done, and the store gave this receipt for it. The frontier is answered. The receipt comes
-    /// back where the put is not out: its number is not started, or these are not the sealed bytes, or the
-    /// receipt names another object; then nothing changes. It takes no memory.
-    pub fn job_done(&mut self, job: &Job, receipt: R) -> Result<u64, R>
-        ensures nothing { IsErr result ↔ (IsOut self.old.uploads job.now.name.number job.now.bytes
-            × ((R.state receipt).name ≡ object_name (expected_of_volume self.old) job.now.name.number) → ⊥) }
-        ensures out { OnOk result (IsOut self.old.uploads job.now.name.number job.now.bytes) }
-        ensures named { OnOk result ((R.state receipt).name ≡ object_name (expected_of_volume self.old)
-            job.now.name.number) }
-        ensures done { OnOk result (IsPutDone job.now.name.number (R.state receipt) self.old.uploads
-            self.new.uploads) }
-        ensures batch { self.new.batch ≡ self.old.batch }
-        ensures frontier { IfOk result (λ frontier. frontier ≡ self.new.uploads.queue.frontier) }
-        ensures back { IfErr result (λ back. back ≡ receipt) }
-        ensures same { OnErr result (self.new ≡ self.old) }
-    {
-        self.uploads.job_done(job, receipt)
-    }
-
-    /// A put failed, and its object is ready again. The job comes back where it is not out: its number is not
-    /// started, or these are not the sealed bytes; then nothing changes. It takes no memory.
-    pub fn job_failed(&mut self, job: Job) -> Result<(), Job>
-        ensures nothing { IsErr result ↔ (IsOut self.old.uploads job.name.number job.bytes → ⊥) }
-        ensures out { OnOk result (IsOut self.old.uploads job.name.number job.bytes) }
-        ensures ready { OnOk result (self.new ≡ record self.old
-            { uploads = with_job job.name.number false self.old.uploads }) }
-        ensures back { IfErr result (λ back. back ≡ job) }
-        ensures same { OnErr result (self.new ≡ self.old) }
-    {
-        self.uploads.job_failed(job)
     }
 
     /// The objects on their way to the store, and where each sector is.
@@ -210,6 +165,14 @@ impl<R: Receipt> ObjLog<R> {
         ensures { result.now ≡ self.now.uploads }
     {
         &self.uploads
+    }
+
+    /// The same, for their jobs, removals, pins and checkpoints, which leave the batch as it is.
+    pub fn uploads_mut(&mut self) -> &mut Uploads<R>
+        ensures* lends { sem 𝓛 (LendsUploads R.row R.Receipt self.entry result) }
+        ensures is { result.now ≡ self.old.uploads }
+    {
+        &mut self.uploads
     }
 
     /// The entries that are in no object yet.

@@ -57,6 +57,7 @@ list_more uuid geometry number before end rows receipt old new is adopted =
     record {
       uuid_is = now.uuid ∙ is.uuid_is;
       geometry_is = adopted.geometry ∙ is.geometry_is;
+      sectors = now.sectors ∙ is.sectors;
       first = adopted.first ∙ sym now.settled.ends;
       entries = adopted.entries;
       window = now.window ∙ ap (λ (n : ℕ). let window : WindowState = record { last = n; objects = [] } in window) (sym last);

@@ -16,7 +16,9 @@ use Rattle.volume_maps.specs.Maps.{row_object_place, settled_by_row, settled_by,
 use Rattle.object_uploads.specs.State.{StoredObject, QueueState}
 use Rattle.object_uploads.specs.Queue.{front_of, payload_of, stored_at, IsNextSettled}
 use Rattle.object_uploads.specs.Order.{AreKnown}
-use Rattle.object_uploads.proofs.KnownLemmas.{up_to, known_in, still_stored, next_stored}
+use Rattle.object_uploads.proofs.ImageLemmas.{known_up_to}
+use Rattle.object_uploads.proofs.SettleImage.{added_data}
+use Rattle.object_uploads.proofs.StoredLemmas.{IsAddedTo, still_stored, next_stored}
 use Rattle.object_recovery.specs.Places.{IsInsideObject, HasPlacesInside}
 use Rattle.object_recovery.specs.Adoption.{IsReadAsData}
 
@@ -74,33 +76,34 @@ inside_by true was is at kept inside = inside_kept was is at kept inside
 inside_by false was is at kept inside = absurd inside
 
 -- what is in the store with the next object
-module _ (rows : List DataRow) (end : ℕ) (receipt : ReceiptState) (old new : QueueState) (known : AreKnown old)
-    (next : IsNextSettled rows end receipt old new) where
-  abbrev payload : ℕ
-  payload = payload_of receipt.size rows
-
-  up_to_frontier : AreKnown (up_to old.frontier old.receipts old.maps)
-  up_to_frontier = known_in old (up_to old.frontier old.receipts old.maps) known refl refl refl refl
+module _ (uuid : List ℕ) (rows : List DataRow) (end : ℕ) (receipt : ReceiptState) (old new : QueueState)
+    (known : AreKnown uuid old) (next : IsNextSettled rows end receipt old new) where
+  added : IsAddedTo (old.frontier + 1) (front_of rows) receipt old.receipts old.maps.objects.rows new.receipts
+      new.maps.objects.rows
+  added =
+      rw next.receipts (
+      added_data (old.frontier + 1) (payload_of receipt.size rows) (front_of rows) receipt old.receipts old.maps.objects
+      new.maps.objects next.maps.objects
+      )
 
   still_inside : (place : ObjectPlace) → IsInsideObject (stored_at old place) place.sector
       → IsInsideObject (stored_at new place) place.sector
   still_inside place inside =
-      rw next.receipts (
       inside_by (place.level == 0) _ _ place.sector
-      (still_stored old.frontier payload (front_of rows) old.receipts receipt old.maps new.maps up_to_frontier next.maps.objects
-      place.number) inside
-      )
+      (still_stored (old.frontier + 1) (front_of rows) receipt old.receipts new.receipts old.maps.objects.rows
+      new.maps.objects.rows added place.number) inside
 
   own_stored : (sector : ℕ) → stored_at new (record { level = 0; number = old.frontier + 1; sector = sector })
       ≡ Some (record { receipt = receipt; front = front_of rows })
   own_stored sector =
-      rw next.receipts
-      (next_stored old.frontier payload (front_of rows) old.receipts receipt old.maps new.maps up_to_frontier next.maps.objects)
+      next_stored (old.frontier + 1) (front_of rows) receipt old.receipts new.receipts old.maps.objects.rows
+      new.maps.objects.rows added old.frontier (omega arith) (known_up_to uuid old known)
 
-pub places_more : (sectors end : ℕ) (rows : List DataRow) (expected : Expected) (receipt : ReceiptState) (old new : QueueState)
-    → AreKnown old → expected.sectors ≡ sectors → IsReadAsData receipt expected rows end
+pub places_more : (uuid : List ℕ) (sectors end : ℕ) (rows : List DataRow) (expected : Expected) (receipt : ReceiptState)
+    (old new : QueueState)
+    → AreKnown uuid old → expected.sectors ≡ sectors → IsReadAsData receipt expected rows end
     → IsNextSettled rows end receipt old new → HasPlacesInside sectors old → HasPlacesInside sectors new
-places_more sectors end rows expected receipt old new known same read next inside k place at =
+places_more uuid sectors end rows expected receipt old new known same read next inside k place at =
     let Holds : ObjectPlace → Type 0 = λ p. (k < sectors) × (p.level ≡ 0) × IsInsideObject (stored_at new p) p.sector in
     let object = read.read.is_object in
     let payload = read.header.payload in
@@ -115,13 +118,13 @@ places_more sectors end rows expected receipt old new known same read next insid
     λ stand_at i low below. (
       low,
       refl,
-      subst (λ o. IsInsideObject o (stand_at + i)) (sym (own_stored rows end receipt old new known next (stand_at + i)))
+      subst (λ o. IsInsideObject o (stand_at + i)) (sym (own_stored uuid rows end receipt old new known next (stand_at + i)))
           (omega (arith, object.head.has_size, front, below)),
     ) in
     let before : IfSome (settled_at old.maps k) Holds =
     so_some Holds (settled_at old.maps k) (λ p is.
     let was = inside k p is in
-    (was.0, was.1, still_inside rows end receipt old new known next p was.2)) in
+    (was.0, was.1, still_inside uuid rows end receipt old new known next p was.2)) in
     some_so Holds (settled_at new.maps k)
     (subst (λ o. IfSome o Holds) (sym (next.maps.settled k))
     (holds_by_rows sectors payload (old.frontier + 1) k Holds own None 0 rows (settled_at old.maps k) stand before)) place at

@@ -14,10 +14,14 @@ use Rattle.object_stream.proofs.OneLemmas.{same_parts}
 use Rattle.stopped_volume.specs.Objects.{landed_in, IsCheckpointOf}
 use Rattle.batcher.specs.State.{BatchState}
 use Rattle.extent_map.specs.Extents.{place_at}
-use Rattle.volume_maps.specs.Places.{log_on}
+use Rattle.volume_maps.specs.Laws.{place_owner}
+use Rattle.volume_maps.specs.Maps.{settled_at}
+use Rattle.volume_maps.specs.Places.{log_on, object_on}
 use Rattle.upload_window.specs.Window.{WindowState}
 use Rattle.object_uploads.specs.Image.{HasImage}
+use Rattle.object_uploads.specs.Order.{IsUploads}
 use Rattle.object_uploads.proofs.GrowLemmas.{all_objects}
+use Rattle.object_uploads.proofs.UploadsKept.{uploads_begin}
 use Rattle.obj_log.specs.State.{ObjLogState}
 use Rattle.obj_log.specs.Stream.{IsOfStream}
 use Rattle.obj_log.proofs.StreamLemmas.{new_list_begins_stream}
@@ -33,30 +37,40 @@ use Rattle.object_recovery.proofs.StreamLemmas.{reached}
 -- a list that was just made
 pub record IsNewList (uuid : List ℕ) (geometry : Geometry) (number end : ℕ) (log : ObjLogState) : Type 0 where
   pub list : IsListUpTo uuid geometry number end log
+  pub order : IsUploads log.uploads
   pub settled : log.uploads.queue.maps.settled.rows ≡ []
   pub log_rows : log.uploads.queue.maps.log.rows ≡ []
 
 pub new_list : (uuid : List ℕ) (geometry : Geometry) (number end : ℕ) (log : ObjLogState)
     → log.batch ≡ record { geometry = geometry; first = end; entries = []; reserved = 0 } → log.uploads.uuid ≡ uuid
+    → log.uploads.sectors ≡ geometry.sectors → geometry.sectors ≤ 2147483648
     → log.uploads.window ≡ record { last = number; objects = [] } → log.uploads.queue.frontier ≡ number
     → log.uploads.queue.end ≡ end
-    → log.uploads.queue.sealed ≡ [] → log.uploads.queue.maps.settled.rows ≡ [] → log.uploads.queue.maps.log.rows ≡ []
+    → log.uploads.queue.sealed ≡ [] → log.uploads.queue.receipts ≡ [] → log.uploads.queue.removal ≡ None
+    → log.uploads.queue.maps.settled.rows ≡ [] → log.uploads.queue.maps.log.rows ≡ []
+    → log.uploads.queue.maps.objects.rows ≡ [] → log.uploads.queue.maps.objects.checkpoint ≡ 0
     → IsNewList uuid geometry number end log
-new_list uuid geometry number end log batch uuid_is window frontier end_is sealed settled log_rows = record {
-  list = record {
-    uuid_is = uuid_is;
-    geometry_is = ap (λ (b : BatchState). b.geometry) batch;
-    first = ap (λ (b : BatchState). b.first) batch;
-    entries = ap (λ (b : BatchState). b.entries) batch;
-    window = window;
-    frontier = frontier;
-    end_is = end_is;
-    sealed = sealed;
-    logged = λ k. ap (λ rows. place_at log_on rows k) log_rows;
-  };
-  settled = settled;
-  log_rows = log_rows;
-}
+new_list uuid geometry number end log batch uuid_is sectors low window frontier end_is sealed receipts removal settled
+    log_rows objects checkpoint = record {
+      list = record {
+        uuid_is = uuid_is;
+        geometry_is = ap (λ (b : BatchState). b.geometry) batch;
+        sectors = sectors;
+        first = ap (λ (b : BatchState). b.first) batch;
+        entries = ap (λ (b : BatchState). b.entries) batch;
+        window = window;
+        frontier = frontier;
+        end_is = end_is;
+        sealed = sealed;
+        logged = λ k. ap (λ rows. place_at log_on rows k) log_rows;
+      };
+      order =
+          let at : ℕ → WindowState = λ last. record { last = last; objects = [] } in
+          uploads_begin log.uploads.uuid log.uploads.sectors log.uploads.queue log.uploads.window (omega (arith, sectors, low))
+          sealed receipts removal settled objects checkpoint (window ∙ ap at (sym frontier));
+      settled = settled;
+      log_rows = log_rows;
+    }
 
 module _ (stream : Stream) (none : (k : ℕ) → stream.opening k ≡ None) where
   abbrev begin : ℕ
@@ -102,11 +116,14 @@ module _ (stream : Stream) (none : (k : ℕ) → stream.opening k ≡ None) wher
   begins uuid geometry sectors log new =
       let is = new.list in
       let has = new_list_has_blank log sectors is.sealed new.settled in
+      let no_owners : (k : ℕ) → place_owner (settled_at log.uploads.queue.maps k) ≡ None =
+      λ k. ap (λ rows. place_owner (place_at object_on rows k)) new.settled in
       record {
         of_stream = λ data_at.
             subst (λ s. IsOfStream data_at s log) empty_is
-            (new_list_begins_stream data_at log begin stream.end is.first is.entries is.window is.frontier is.end_is is.sealed
-            new.settled new.log_rows);
+            (new_list_begins_stream data_at log begin stream.end (λ k. None) is.first is.entries
+            (is.sectors ∙ sym (ap (λ (g : Geometry). g.sectors) is.geometry_is)) is.window is.frontier is.end_is is.sealed
+            new.log_rows new.order no_owners);
         image = subst (λ es. HasImage (after (blank sectors) es) log.uploads.queue) (sym no_entries) has.0;
         receipts = has.1;
       }

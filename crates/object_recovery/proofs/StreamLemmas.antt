@@ -31,8 +31,7 @@ use Rattle.object_stream.specs.Stream.{Stream, end_after, end_at, GoesTo, EndsFo
 use Rattle.object_stream.proofs.OneLemmas.{AreSameParts, same_parts}
 use Rattle.object_stream.proofs.StreamLemmas.{end_in_parts, goes_on, end_no_earlier, follow_first}
 use Rattle.object_stream.proofs.ValueLemmas.{length-after}
-use Rattle.object_uploads.specs.Queue.{just_sealed}
-use Rattle.object_uploads.specs.Stream.{IsSealedOf}
+use Rattle.object_uploads.specs.Stream.{HoldsEntries}
 use Rattle.object_uploads.specs.Laws.{with_adopted}
 use Rattle.object_uploads.proofs.GrowLemmas.{all_objects}
 use Rattle.obj_log.specs.State.{ObjLogState}
@@ -274,11 +273,8 @@ module _ (volume : Expected) (uuid_at : ℕ → Option (List ℕ)) (objects : Ob
       object_end : object.end ≡ end
       object_end = sym is_stored.ends ∙ ap (λ (h : Header). h.end_seq) (sym one.headers) ∙ stored.end_is
 
-      sealed_of : IsSealedOf (expected_at volume (at + 1) end_before) part (record { content = content.Data; end = end })
-          (just_sealed stored.bytes rows end)
-      sealed_of = record {
-        content = refl;
-        end = refl;
+      holds_entries : HoldsEntries (expected_at volume (at + 1) end_before) part end stored.bytes rows
+      holds_entries = record {
         header = stored.header;
         rows_of = rows_of.Data stored.list;
         payload = payload;
@@ -296,7 +292,7 @@ module _ (volume : Expected) (uuid_at : ℕ → Option (List ℕ)) (objects : Ob
     module _ (old new : ObjLogState) (rows : List DataRow) (end : ℕ) (receipt : ReceiptState)
         (same_volume : expected_of_volume old ≡ volume)
         (last : old.uploads.window.last ≡ at) (sealed_none : old.uploads.queue.sealed ≡ []) (batch_none : old.batch.entries ≡ [])
-        (uploads : IsUploads old.uploads.queue old.uploads.window) (adopted : HasAdoptedObject rows end receipt old new)
+        (uploads : IsUploads old.uploads) (adopted : HasAdoptedObject rows end receipt old new)
         (list : HasStreamTo volume.sectors stream at old) (there : IsStoredAs objects (next_of old) rows end receipt) where
       first : old.batch.first ≡ end_before
       first = (list.of_stream (λ n. 0)).first ∙ ap (end_after stream.end) (all_objects (up_to_object at stream))
@@ -309,11 +305,9 @@ module _ (volume : Expected) (uuid_at : ℕ → Option (List ℕ)) (objects : Ob
       stored : IsStoredAs objects (expected_at volume (at + 1) end_before) rows end receipt
       stored = subst (λ e. IsStoredAs objects e rows end receipt) next_is there
 
-      sealed : IsSealedOf (next_of old) part (record { content = content.Data; end = end }) (just_sealed stored.bytes rows end)
-      sealed =
-          subst (λ e. IsSealedOf e part (record { content = content.Data; end = end }) (just_sealed stored.bytes rows end))
-          (sym next_is)
-          (sealed_of rows end receipt stored)
+      holds : HoldsEntries (next_of old) part end stored.bytes rows
+      holds =
+          subst (λ e. HoldsEntries e part end stored.bytes rows) (sym next_is) (holds_entries rows end receipt stored)
 
       ends : object.end ≡ end
       ends = object_end rows end receipt stored
@@ -336,11 +330,8 @@ module _ (volume : Expected) (uuid_at : ℕ → Option (List ℕ)) (objects : Ob
           × HasOwnReceipts new.uploads.queue
       image =
           let before = after (blank volume.sectors) (up_to_object at stream).entries in
-          let object_is : StreamObject = record { content = content.Data; end = end } in
-          let now = adopting_makes_image (λ n. 0) (up_to_object at stream) old new part object_is stored.bytes rows end receipt
-          before uploads
-          (list.of_stream (λ n. 0)) sealed_none sealed adopted
-          stored.receipt_is part_inside list.image in
+          let now = adopting_makes_image (λ n. 0) (up_to_object at stream) old new part stored.bytes rows end receipt before
+          uploads (list.of_stream (λ n. 0)) sealed_none holds adopted stored.receipt_is part_inside list.image in
           let joined : after before part ≡ after (blank volume.sectors) (up_to_object (at + 1) stream).entries =
           sym (applies_in_parts (blank volume.sectors) (up_to_object at stream).entries part)
           ∙ ap (after (blank volume.sectors)) entries_more in
@@ -352,7 +343,7 @@ module _ (volume : Expected) (uuid_at : ℕ → Option (List ℕ)) (objects : Ob
           let some : 0 < length part = omega (arith, part_size, grows) in
           subst (λ s. IsOfStream data_at s new) (grown end ends)
           (adopting_keeps_stream data_at (up_to_object at stream) old new part stored.bytes rows end receipt uploads
-          (list.of_stream data_at) sealed_none batch_none goes some sealed adopted)
+          (list.of_stream data_at) sealed_none batch_none goes some holds adopted)
 
       pub one_more : HasStreamTo volume.sectors stream (at + 1) new
       one_more = record { of_stream = of_stream; image = image.0; receipts = image.1 }

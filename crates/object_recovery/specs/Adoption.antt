@@ -102,7 +102,7 @@ pub record AdoptsNext (Tells : Type 0) (objects : Option Objects) (old new : Obj
   pub rows : List DataRow
   pub end : ℕ
   pub receipt : ReceiptState
-  pub order : IsUploads old.uploads.queue old.uploads.window
+  pub order : IsUploads old.uploads
   pub named : old.uploads.window.last + 1 < 2 ^ 64
   pub read : IsReadAsData receipt (next_of old) rows end
   pub adopted : HasAdoptedObject rows end receipt old new
@@ -164,6 +164,7 @@ pub record RecoverListOf (Tells : Type 0) (uuid : List ℕ) (geometry : Geometry
     (old new : StoreState) (result : Result ObjLogState RecoverError) : Type 0 where
   pub list : IfOk result (λ log. IsListUpTo uuid geometry log.uploads.window.last log.uploads.queue.end log)
   pub from : IfOk result (λ log. base.number ≤ log.uploads.window.last)
+  pub order : IfOk result (λ log. IsUploads log.uploads)
   pub places : IfOk result (λ log. HasPlacesInside geometry.sectors log.uploads.queue)
   pub recovers : Tells → IfOk result (λ log. IfSome old.objects (λ objects.
       IsRecoveryBegun uuid geometry base.number base.end names objects

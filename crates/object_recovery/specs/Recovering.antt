@@ -5,6 +5,7 @@ use Rattle.lsvd_fault.specs.Faults.{Counts}
 use Rattle.lsvd_objstore.specs.Objects.{Objects}
 use Rattle.lsvd_objstore.specs.Store.{StoreState, OnlyCounts}
 use Rattle.object_format.specs.declared.expected.Expected.{Expected}
+use Rattle.object_uploads.specs.Order.{IsUploads}
 use Rattle.obj_log.specs.State.{ObjLogState}
 use Rattle.object_recovery.specs.declared.error.RecoverError.{RecoverError}
 use Rattle.object_recovery.specs.Checkpoints.{expected_of, IsNewestWithEnd}
@@ -27,11 +28,12 @@ pub record Recovers (volume : Expected) (base : ℕ) (objects : Objects) (log : 
   pub past : AreNamedWholePast volume objects log.uploads.window.last
 
 -- The list of a volume was recovered, with the names of all its objects. Each object of the list is acknowledged, and each place
--- in its map lies inside one. Where bytes are told, it is that of the objects of the store.
+-- in its map lies inside one; its objects are in order. Where bytes are told, it is that of the objects of the store.
 pub record RecoveredOf (Tells : Type 0) (uuid : List ℕ) (geometry : Geometry) (objects : Option Objects)
     (found : RecoveredState) : Type 0 where
   pub list : IsListUpTo uuid geometry found.log.uploads.window.last found.log.uploads.queue.end found.log
   pub from : found.checkpoint ≤ found.log.uploads.window.last
+  pub order : IsUploads found.log.uploads
   pub places : HasPlacesInside geometry.sectors found.log.uploads.queue
   pub names : HasAllNames objects found
   pub told : Tells → IfSome objects (λ objects. Recovers (expected_of uuid geometry) found.checkpoint objects found.log)

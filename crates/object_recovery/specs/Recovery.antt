@@ -51,6 +51,7 @@ pub record HasDataUpTo (volume : Expected) (uuid_at : ℕ → Option (List ℕ))
 pub record IsListUpTo (uuid : List ℕ) (geometry : Geometry) (number end : ℕ) (log : ObjLogState) : Type 0 where
   pub uuid_is : log.uploads.uuid ≡ uuid
   pub geometry_is : log.batch.geometry ≡ geometry
+  pub sectors : log.uploads.sectors ≡ geometry.sectors
   pub first : log.batch.first ≡ end
   pub entries : log.batch.entries ≡ []
   pub window : log.uploads.window ≡ record { last = number; objects = [] }

@@ -2,6 +2,7 @@ ghost use Rattle.std.specs.Prelude.{◌≡◌, ◌+◌, ◌^◌, ◌<◌, ◌≤
 ghost use Rattle.lsvd_base.specs.Limits.{is_within_limits};
 ghost use Rattle.lsvd_objstore.specs.Store.{StoreState, ReceiptState, OnlyCounts};
 ghost use Rattle.lsvd_fault.specs.Faults.{Counts};
+ghost use Rattle.object_uploads.specs.Order.{IsUploads};
 ghost use Rattle.obj_log.specs.State.{ObjLogState};
 ghost use Rattle.obj_log.specs.Changes.{expected_of_volume, next_of};
 ghost use Rattle.object_recovery.specs.Faults.{ends_by_fault, IsNoAnswer};
@@ -63,6 +64,7 @@ pub(crate) fn adopt_all<S: Store>(
         log.new.uploads.queue.end log.new) }
     ensures places { OnOk result (HasPlacesInside log.old.batch.geometry.sectors log.new.uploads.queue) }
     ensures from { OnOk result (log.old.uploads.window.last ≤ log.new.uploads.window.last) }
+    ensures order { OnOk result (IsUploads log.new.uploads) }
     ensures streams { TellsBytes S.Receipt.state → OnOk result (IfSome (S.state store.old).objects (λ objects.
         KeepsStreams (expected_of_volume log.old) objects log.old log.new)) }
     ensures good { TellsBytes S.Receipt.state → OnOk result (IfSome (S.state store.old).objects (λ objects.
@@ -94,11 +96,12 @@ fn adopt_next<S: Store>(
     requires limits { IsTrue (is_within_limits log.old.batch.geometry) }
     ensures next { IfOk result (ComesNext (TellsBytes S.Receipt.state) (S.state store.old).objects
         log.old log.new) }
+    ensures order { IsUploads log.old.uploads }
     ensures answer { IfErr result IsNoAnswer }
     ensures unchanged { OnlyCounts (S.state store.old) (S.state store.new) }
     ensures faults { Counts (ends_by_fault result) (S.state store.old).faults (S.state store.new).faults }
 {
-    if log.uploads().last() == u64::MAX {
+    if log.uploads().frontier() == u64::MAX {
         return Ok(Next::Missing);
     }
     let expected = expected_next(log);

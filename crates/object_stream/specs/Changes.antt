@@ -1,5 +1,7 @@
 -- Contract: what entries do to a sector of the volume, and what the rows of an object do to it.
-use Rattle.std.specs.Prelude.{ℕ, ◌+◌, ◌-◌, ◌*◌, ◌/◌, Option, Some, None, List, [], ◌∷◌, length, take, drop, if◌then◌else◌}
+use Rattle.std.specs.Prelude.{ℕ, ◌+◌, ◌-◌, ◌*◌, ◌/◌, Bool, true, false, Option, Some, None, List, [], ◌∷◌, length, take, drop}
+use Rattle.std.specs.Prelude.{if◌then◌else◌}
+use Rattle.std.specs.List.{count_by, range_with_len}
 use Rattle.std.specs.Option.{option_or}
 use Rattle.lsvd_base.specs.declared.entry.Entry.{Entry}
 use Rattle.lsvd_base.specs.declared.entry.Entry.TheVariants.{Write, Zero}
@@ -23,6 +25,16 @@ entry_change (Zero lba sectors) k = if is_within lba sectors k then Some Clear e
 abbrev pub change_at : List Entry → ℕ → Option Change
 change_at [] k = None
 change_at (entry ∷ entries) k = option_or (change_at entries k) (entry_change entry k)
+
+-- a change puts a sector
+abbrev pub is_put : Option Change → Bool
+is_put None = false
+is_put (Some (Put sector)) = true
+is_put (Some Clear) = false
+
+-- where the data object of some entries has a sector that these put, in its payload: after those below it that they put
+abbrev pub place_in_payload : List Entry → (k : ℕ) → ℕ
+place_in_payload entries k = count_by (λ i. is_put (change_at entries i)) (range_with_len 0 k)
 
 -- ---- by the rows of a data object
 

@@ -1,6 +1,7 @@
--- An object that is adopted: the stream with it, and the image.
+-- An object that is adopted: the stream with it.
 use Rattle.std.proofs.Common.{◌≡◌, ℕ, ◌+◌, ◌-◌, ◌<◌, ◌≤◌, cond, Bool, true, false, None, List, [], ◌∷◌, ◌++◌, length, take, drop}
-use Rattle.std.proofs.Common.{refl, sym, ◌∙◌, ap, arith, length-append, length-drop}
+use Rattle.std.proofs.Common.{refl, sym, ◌∙◌, ap, subst, arith, length-append, length-drop}
+use Rattle.std.specs.Prelude.{IfSome}
 use Rattle.std.proofs.Math.Seq.{take-length, drop-length, drop-append_seam}
 use Rattle.lsvd_base.specs.declared.entry.Entry.{Entry}
 use Rattle.lsvd_objstore.specs.Store.{ReceiptState}
@@ -10,23 +11,21 @@ use Rattle.extent_map.specs.Extents.{is_within}
 use Rattle.object_stream.specs.declared.object.Content.TheVariants.{Data}
 use Rattle.object_stream.specs.declared.object.StreamObject.{StreamObject}
 use Rattle.object_stream.specs.Stream.{Owners, Stream, after_object, after_objects, owners, objects_to, end_after, end_at}
-use Rattle.object_stream.specs.Stream.{last_number, unsealed, IsStream}
+use Rattle.object_stream.specs.Stream.{last_number, unsealed, owner_by_change, IsStream}
+use Rattle.object_stream.specs.Changes.{change_at}
 use Rattle.object_stream.specs.Replay.{expected_at}
 use Rattle.object_stream.proofs.StreamLemmas.{after_in_parts, end_in_parts, end_no_earlier}
 use Rattle.volume_maps.specs.Places.{left_at}
 use Rattle.volume_maps.specs.Maps.{settled_by, logged_by, settled_at, logged_at}
 use Rattle.volume_maps.specs.Laws.{place_owner}
 use Rattle.object_uploads.specs.State.{UploadsState}
-use Rattle.object_uploads.specs.Queue.{just_sealed}
 use Rattle.object_uploads.specs.Order.{IsUploads}
 use Rattle.object_uploads.specs.Changes.{IsAdopted}
-use Rattle.object_uploads.specs.Stream.{IsSealedOf, AreOfStream}
+use Rattle.object_uploads.specs.Stream.{HoldsEntries, entries_in_object, IsPlacedIn, AreOfStream}
 use Rattle.object_uploads.specs.Laws.{with_adopted, AdoptingKeepsStream}
-use Rattle.object_uploads.specs.ImageLaws.{AdoptingMakesImage}
-use Rattle.object_uploads.proofs.KeepLemmas.{settle_one}
-use Rattle.object_uploads.proofs.GrowLemmas.{owners_more, follow_more, all_objects}
-use Rattle.object_uploads.proofs.KnownLemmas.{known_in, up_to}
-use Rattle.object_uploads.proofs.ImageLemmas.{has_one}
+use Rattle.object_uploads.proofs.PlacedLemmas.{HasSameEntries, both_same, longer, longer_same, objects_same, end_with_objects}
+use Rattle.object_uploads.proofs.KeepLemmas.{owner_of_entries, placed_of_entries}
+use Rattle.object_uploads.proofs.GrowLemmas.{owners_more, follow_more, all_objects, last_end_is, grown_placed}
 
 -- rows leave a sector that is not in the log out of it
 none_by_test : (test : Bool) (end : ℕ) (rows : List DataRow) (k : ℕ) → logged_by end rows None k ≡ None
@@ -43,11 +42,11 @@ nothing_left n list none = let size = length-drop n list in let zero_ = ap lengt
 
 module _ (volume : Expected) (data_at : ℕ → ℕ) (stream : Stream) (old new : UploadsState) (entries : List Entry) (bytes : List ℕ)
     (rows : List DataRow) (end : ℕ) (receipt : ReceiptState)
-    (uploads : IsUploads old.queue old.window) (are : AreOfStream volume data_at stream old) (none : old.queue.sealed ≡ [])
+    (uploads : IsUploads old) (are : AreOfStream volume data_at stream old) (none : old.queue.sealed ≡ [])
     (all_in : unsealed stream ≡ [])
     (ends : end ≡ stream.end + length stream.entries + length entries) (some : 0 < length entries)
-    (is : IsSealedOf (expected_at volume (last_number stream + 1) (end_at stream (last_number stream))) entries
-    (record { content = Data; end = end }) (just_sealed bytes rows end))
+    (holds : HoldsEntries (expected_at volume (last_number stream + 1) (end_at stream
+    (last_number stream))) entries end bytes rows)
     (adopted : IsAdopted rows end receipt old new) where
   abbrev object : StreamObject
   object = record { content = Data; end = end }
@@ -87,16 +86,30 @@ module _ (volume : Expected) (data_at : ℕ → ℕ) (stream : Stream) (old new 
       }
 
   -- the last object has the entries that came with it
-  grown_owners : (k : ℕ) → owners grown (last + 1) k ≡ after_object (last + 1) Data entries (owners stream last) k
-  grown_owners k =
+  abbrev more : List Entry
+  more = stream.entries ++ entries
+
+  part : take (end - end_after stream.end stream.objects) (drop (end_after stream.end stream.objects - stream.end) more) ≡ entries
+  part =
       let e = end_after stream.end stream.objects in
-      let more = stream.entries ++ entries in
-      let before = after_objects stream.number stream.end stream.entries stream.opening stream.objects in
       let skip : e - stream.end ≡ length stream.entries = omega (arith, last_end) in
       let rest : drop (e - stream.end) more ≡ entries = ap (λ n. drop n more) skip ∙ drop-append_seam stream.entries entries in
       let count : end - e ≡ length entries = omega (arith, last_end, ends) in
-      let part : take (end - e) (drop (e - stream.end) more) ≡ entries = ap (take (end - e)) rest
-      ∙ (ap (λ n. take n entries) count ∙ take-length entries) in
+      ap (take (end - e)) rest ∙ (ap (λ n. take n entries) count ∙ take-length entries)
+
+  own : entries ≡ entries_in_object grown (last + 1)
+  own =
+      let e = end_after stream.end stream.objects in
+      let before : last ≡ last + 1 - 1 = omega arith in
+      let same_end : e ≡ end_at grown (last + 1 - 1) =
+      last_end_is stream
+      ∙ (sym (end_with_objects (longer entries stream) (object ∷ []) last (omega arith)) ∙ ap (end_at grown) before) in
+      sym part
+      ∙ (ap (λ x. take (x - e) (drop (e - stream.end) more)) (sym grown_end)
+      ∙ ap (λ x. take (end_at grown (last + 1) - x) (drop (x - stream.end) more)) same_end)
+
+  grown_owners : (k : ℕ) → owners grown (last + 1) k ≡ after_object (last + 1) Data entries (owners stream last) k
+  grown_owners k =
       ap (λ os. after_objects stream.number stream.end more stream.opening os k) grown_objects
       ∙ (ap (λ (f : Owners). f k) (after_in_parts stream.number stream.end more stream.opening stream.objects (object ∷ [])
       are.valid.ends)
@@ -113,9 +126,21 @@ module _ (volume : Expected) (data_at : ℕ → ℕ) (stream : Stream) (old new 
       let before = are.settled k ∙ ap (λ n. owners stream n k) at_last in
       ap place_owner (adopted.settled.maps.settled k)
       ∙ (ap (λ n. place_owner (settled_by (n + 1) rows (settled_at old.queue.maps k) k)) at_last
-      ∙ (settle_one volume data_at k (last + 1) (end_at stream last) entries object (just_sealed bytes rows end)
-      (settled_at old.queue.maps k) (owners stream last) is before
-      ∙ sym (grown_owners k)))
+      ∙ (owner_of_entries volume (last + 1) (end_at stream last) entries end bytes rows holds k (settled_at old.queue.maps k)
+      ∙ (ap (owner_by_change (last + 1) (change_at entries k)) before ∙ sym (grown_owners k))))
+
+  same_entries : HasSameEntries stream grown
+  same_entries =
+      both_same stream (longer entries stream) grown (longer_same stream entries are.valid (last_end_is stream))
+      (objects_same (longer entries stream) (object ∷ [])) (omega arith)
+
+  now_placed : (k : ℕ) → IfSome (settled_at new.queue.maps k) (IsPlacedIn grown k)
+  now_placed k =
+      let now : settled_at new.queue.maps k ≡ settled_by (last + 1) rows (settled_at old.queue.maps k) k =
+      adopted.settled.maps.settled k ∙ ap (λ n. settled_by (n + 1) rows (settled_at old.queue.maps k) k) at_last in
+      subst (λ p. IfSome p (IsPlacedIn grown k)) (sym now)
+      (placed_of_entries volume (last + 1) (end_at stream last) entries end bytes rows holds grown k (settled_at old.queue.maps k)
+      own (grown_placed volume data_at stream grown old uploads are same_entries k))
 
   -- nothing is past it
   no_entries : drop (end - stream.end) (stream.entries ++ entries) ≡ []
@@ -155,6 +180,7 @@ module _ (volume : Expected) (data_at : ℕ → ℕ) (stream : Stream) (old new 
         last = number_is ∙ sym window_last;
         end = adopted.settled.ends ∙ sym grown_end;
         settled = now_settled;
+        placed = now_placed;
         sealed = rw (adopted.settled.sealed, no_objects) tt;
         logged = λ k. now_logged k
             ∙ sym (ap (λ e. left_at data_at new.queue.end (drop (e - stream.end) (stream.entries ++ entries)) k) grown_end
@@ -162,14 +188,6 @@ module _ (volume : Expected) (data_at : ℕ → ℕ) (stream : Stream) (old new 
       })
 
 pub adopting_keeps_stream : AdoptingKeepsStream
-adopting_keeps_stream volume data_at stream old new entries bytes rows end receipt uploads are none all_in ends some is adopted =
-    now_of_stream volume data_at stream old new entries bytes rows end receipt uploads are none all_in ends some is adopted
-
-pub adopting_makes_image : AdoptingMakesImage
-adopting_makes_image volume end_before entries object bytes rows end receipt old new image uploads is adopted tells ends has k
-    sector at =
-    let known = known_in old.queue (up_to old.queue.frontier old.queue.receipts old.queue.maps) uploads.known refl refl refl
-    refl in
-    let held = has_one volume old.queue.frontier end_before receipt.size entries object (just_sealed bytes rows end)
-    old.queue.receipts receipt old.queue.maps new.queue.maps image known is tells ends adopted.settled.maps has k sector at in
-    rw adopted.settled.receipts held
+adopting_keeps_stream volume data_at stream old new entries bytes rows end receipt uploads are none all_in ends some holds
+    adopted =
+    now_of_stream volume data_at stream old new entries bytes rows end receipt uploads are none all_in ends some holds adopted

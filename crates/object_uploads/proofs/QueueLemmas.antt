@@ -7,10 +7,11 @@ use Rattle.std.proofs.lemmas.List.{append-nil, append_assoc, length-take-le, dro
 use Rattle.std.proofs.lemmas.List.Sums.{sum_by-cons}
 use Rattle.std.proofs.Math.Seq.{take-add}
 use Rattle.lsvd_objstore.specs.Store.{ReceiptState}
-use Rattle.object_format.specs.declared.data_row.DataRow.{DataRow}
+use Rattle.object_uploads.specs.declared.rows.SealedRows.{SealedRows}
 use Rattle.volume_maps.specs.Maps.{MapsState}
 use Rattle.object_uploads.specs.State.{SealedState, NumberedReceipt, QueueState}
-use Rattle.object_uploads.specs.Queue.{with_at, HasBytesAt, row_count, end_of_last, receipts_of, SettlesObject, SettlesObjects}
+use Rattle.object_uploads.specs.Queue.{with_at, HasBytesAt, count_of_rows, row_count, end_of_last, receipts_of, SettlesSealed}
+use Rattle.object_uploads.specs.Queue.{SettlesObjects}
 use Rattle.object_uploads.specs.Queue.{IsSettledBy}
 
 -- ---- settling
@@ -19,10 +20,10 @@ use Rattle.object_uploads.specs.Queue.{IsSettledBy}
 pub settles_one : (old new : QueueState) (first : SealedState) (rest : List SealedState) (receipt : ReceiptState)
     → old.sealed ≡ first ∷ rest → first.receipt ≡ Some receipt
     → new.frontier ≡ old.frontier + 1 → new.end ≡ first.end → new.sealed ≡ rest
-    → new.receipts ≡ old.receipts ++ record { number = old.frontier + 1; receipt = receipt } ∷ []
-    → SettlesObject (old.frontier + 1) (length first.bytes) first.rows first.end old.maps new.maps
+    → new.receipts ≡ old.receipts ++ record { number = old.frontier + 1; receipt = receipt } ∷ [] → new.removal ≡ old.removal
+    → SettlesSealed (old.frontier + 1) (length first.bytes) first.rows first.end old.maps new.maps
     → IsSettledBy 1 old new
-settles_one old new first rest receipt sealed given frontier end left receipts maps =
+settles_one old new first rest receipt sealed given frontier end left receipts removal maps =
     let one : take 1 old.sealed ≡ first ∷ [] = rw sealed refl in
     let count : length old.sealed ≡ suc (length rest) = ap length sealed in
     record {
@@ -32,13 +33,14 @@ settles_one old new first rest receipt sealed given frontier end left receipts m
       frontier = frontier;
       end = rw one end;
       sealed = rw sealed left;
+      removal = removal;
       maps = rw one (new.maps, maps, refl);
     }
 
 -- the same object
-pub settles_as : (number size size_as end end_as : ℕ) (rows rows_as : List DataRow) (old new : MapsState) → size ≡ size_as
-    → rows ≡ rows_as → end ≡ end_as → SettlesObject number size rows end old new
-    → SettlesObject number size_as rows_as end_as old new
+pub settles_as : (number size size_as end end_as : ℕ) (rows rows_as : SealedRows) (old new : MapsState) → size ≡ size_as
+    → rows ≡ rows_as → end ≡ end_as → SettlesSealed number size rows end old new
+    → SettlesSealed number size_as rows_as end_as old new
 settles_as number size size_as end end_as rows rows_as old new same_size same_rows same_end settles =
     rw (← same_size, ← same_rows, ← same_end) settles
 
@@ -55,6 +57,15 @@ settles_in_parts number (sealed ∷ a) b old middle new first second =
 pub end_in_parts : (end : ℕ) (a b : List SealedState) → end_of_last end (a ++ b) ≡ end_of_last (end_of_last end a) b
 end_in_parts end [] b = refl
 end_in_parts end (sealed ∷ a) b = end_in_parts sealed.end a b
+
+-- the end of the last of some objects
+pub end_is_last : (end at : ℕ) (list : List SealedState) (last : SealedState) → at + 1 ≡ length list
+    → last ≡ slice_index_or list at last → last.end ≡ end_of_last end list
+end_is_last end at [] last size is = absurd (omega arith)
+end_is_last end zero (sealed ∷ []) last size is = ap (λ (s : SealedState). s.end) is
+end_is_last end zero (sealed ∷ (next ∷ more)) last size is = absurd (omega arith)
+end_is_last end (suc at) (sealed ∷ []) last size is = absurd (omega arith)
+end_is_last end (suc at) (sealed ∷ (next ∷ more)) last size is = end_is_last sealed.end at (next ∷ more) last (omega arith) is
 
 receipts_in_parts : (number : ℕ) (a b : List SealedState)
     → receipts_of number (a ++ b) ≡ receipts_of number a ++ receipts_of (number + length a) b
@@ -83,6 +94,7 @@ settles_none queue = record {
   frontier = omega arith;
   end = refl;
   sealed = refl;
+  removal = refl;
   maps = refl;
 }
 
@@ -107,6 +119,7 @@ settles_more count more old middle new first second =
       frontier = omega (arith, first.frontier, second.frontier);
       end = second.end ∙ (ap (λ e. end_of_last e b) first.end
           ∙ (sym (end_in_parts old.end a b) ∙ sym (ap (end_of_last old.end) split)));
+      removal = second.removal ∙ first.removal;
       sealed = second.sealed ∙ (ap (drop more) first.sealed ∙ (drop-drop more count old.sealed ∙ refl));
       maps = rw split (settles_in_parts old.frontier a b old.maps middle.maps new.maps first.maps
           (subst (λ n. SettlesObjects n b middle.maps new.maps) (sym at) second.maps));
@@ -126,7 +139,7 @@ pub rows_with : (index : ℕ) (change : SealedState → SealedState) (list : Lis
     → sum_by row_count (with_at index change list) ≡ sum_by row_count list
 rows_with index change [] same = refl
 rows_with zero change (sealed ∷ more) same =
-    sum_by-cons row_count (change sealed) more ∙ (ap (λ rows. length rows + sum_by row_count more) (same sealed)
+    sum_by-cons row_count (change sealed) more ∙ (ap (λ rows. count_of_rows rows + sum_by row_count more) (same sealed)
     ∙ sym (sum_by-cons row_count sealed more))
 rows_with (suc index) change (sealed ∷ more) same =
     sum_by-cons row_count sealed (with_at index change more)

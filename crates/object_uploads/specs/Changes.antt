@@ -1,12 +1,13 @@
 -- Contract: what the calls do to the objects of a volume on their way to the store.
-use Rattle.std.specs.Prelude.{◌≡◌, ℕ, ◌+◌, ◌-◌, true, false, not, Bool, List, [], ◌∷◌, ◌++◌}
+use Rattle.std.specs.Prelude.{◌≡◌, ℕ, ◌+◌, ◌-◌, true, not, Bool, List, [], ◌∷◌, ◌++◌}
 use Rattle.lsvd_names.specs.Names.{numbered_name}
 use Rattle.lsvd_objstore.specs.Store.{ReceiptState}
 use Rattle.object_format.specs.declared.data_row.DataRow.{DataRow}
 use Rattle.upload_window.specs.Window.{entered, marked, acknowledged, is_started}
+use Rattle.object_uploads.specs.declared.rows.SealedRows.{SealedRows}
 use Rattle.object_uploads.specs.State.{JobState, QueueState, UploadsState}
 use Rattle.object_uploads.specs.Queue.{with_at, just_sealed, with_spare, with_receipt, HasBytesAt, HasSamePlaces, IsSettledBy}
-use Rattle.object_uploads.specs.Queue.{IsNextSettled, FirstWaits}
+use Rattle.object_uploads.specs.Queue.{IsNextSettled, FirstWaits, is_checkpoint}
 
 -- where the object of a number stands past the frontier
 abbrev pub index_of : UploadsState → ℕ → ℕ
@@ -19,18 +20,21 @@ pub record HasSameSettled (old new : QueueState) : Type 0 where
   pub frontier : new.frontier ≡ old.frontier
   pub end : new.end ≡ old.end
   pub receipts : new.receipts ≡ old.receipts
+  pub removal : new.removal ≡ old.removal
   pub places : HasSamePlaces old.maps new.maps
 
 -- an object with these bytes, these rows and this end was sealed under the next number
-pub record IsSealedNext (bytes : List ℕ) (rows : List DataRow) (end : ℕ) (old new : UploadsState) : Type 0 where
+pub record IsSealedNext (bytes : List ℕ) (rows : SealedRows) (end : ℕ) (old new : UploadsState) : Type 0 where
   pub uuid : new.uuid ≡ old.uuid
+  pub sectors : new.sectors ≡ old.sectors
   pub sealed : new.queue.sealed ≡ old.queue.sealed ++ just_sealed bytes rows end ∷ []
-  pub window : new.window ≡ entered (old.window.last + 1) false old.window
+  pub window : new.window ≡ entered (old.window.last + 1) (is_checkpoint rows) old.window
   pub settled : HasSameSettled old.queue new.queue
 
 -- none was, and nothing changed but for room
 pub record IsNotSealed (old new : UploadsState) : Type 0 where
   pub uuid : new.uuid ≡ old.uuid
+  pub sectors : new.sectors ≡ old.sectors
   pub sealed : new.queue.sealed ≡ old.queue.sealed
   pub window : new.window ≡ old.window
   pub settled : HasSameSettled old.queue new.queue
@@ -58,6 +62,7 @@ pub record IsOut (uploads : UploadsState) (number : ℕ) (bytes : List ℕ) : Ty
 -- not acknowledged.
 pub record IsPutDone (number : ℕ) (receipt : ReceiptState) (old new : UploadsState) : Type 0 where
   pub uuid : new.uuid ≡ old.uuid
+  pub sectors : new.sectors ≡ old.sectors
   pub window : new.window ≡ acknowledged number old.window
   pub count : ℕ
   pub settled : IsSettledBy count (record old.queue {
@@ -72,5 +77,6 @@ pub record IsPutDone (number : ℕ) (receipt : ReceiptState) (old new : UploadsS
 -- settled
 pub record IsAdopted (rows : List DataRow) (end : ℕ) (receipt : ReceiptState) (old new : UploadsState) : Type 0 where
   pub uuid : new.uuid ≡ old.uuid
+  pub sectors : new.sectors ≡ old.sectors
   pub window : new.window ≡ record { last = old.window.last + 1; objects = [] }
   pub settled : IsNextSettled rows end receipt old.queue new.queue

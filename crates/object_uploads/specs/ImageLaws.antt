@@ -1,5 +1,5 @@
 -- Contract: what the calls keep of the image that the objects have.
-use Rattle.std.specs.Prelude.{◌≡◌, ℕ, ◌+◌, ◌-◌, Bool, List, [], length, take}
+use Rattle.std.specs.Prelude.{◌≡◌, ℕ, ◌+◌, ◌-◌, ◌⊎◌, Bool, List, [], length, take}
 use Rattle.std.specs.List.{All}
 use Rattle.lsvd_base.specs.declared.entry.Entry.{Entry}
 use Rattle.lsvd_base.specs.Image.{Image, blank, after}
@@ -7,15 +7,17 @@ use Rattle.lsvd_base.specs.Laws.{EndsBy}
 use Rattle.lsvd_objstore.specs.Store.{ReceiptState}
 use Rattle.object_format.specs.declared.expected.Expected.{Expected}
 use Rattle.object_format.specs.declared.data_row.DataRow.{DataRow}
-use Rattle.object_stream.specs.declared.object.StreamObject.{StreamObject}
 use Rattle.object_stream.specs.Stream.{Stream}
 use Rattle.object_stream.specs.Replay.{expected_at}
 use Rattle.object_stream.specs.Laws.{from_object}
+use Rattle.object_table.specs.declared.row.ObjectRow.{ObjectRow}
+use Rattle.object_uploads.specs.declared.rows.SealedRows.{SealedRows}
 use Rattle.object_uploads.specs.State.{QueueState, UploadsState}
-use Rattle.object_uploads.specs.Queue.{IsEntered, just_sealed}
+use Rattle.object_uploads.specs.Queue.{IsEntered}
 use Rattle.object_uploads.specs.Order.{IsUploads}
 use Rattle.object_uploads.specs.Changes.{IsSealedNext, IsNotSealed, with_job, IsOut, IsPutDone, IsAdopted}
-use Rattle.object_uploads.specs.Stream.{IsSealedOf, AreOfStream}
+use Rattle.object_uploads.specs.Removal.{HasChangedPins, TakesRemoval, FinishesRemoval, TakesBackRemoval}
+use Rattle.object_uploads.specs.Stream.{HoldsEntries, AreOfStream}
 use Rattle.object_uploads.specs.Image.{HasImage, IsReceiptFor, HasOwnReceipts}
 
 -- a call keeps the image that the objects have, and the receipts of their own bytes
@@ -37,7 +39,7 @@ EnteringKeepsImage = (entry : Entry) (seq data_at : ℕ) (old new : QueueState) 
 -- while objects are sealed, or nothing changes but room
 abbrev pub SealingKeepsImage : Type 0
 SealingKeepsImage =
-    (bytes : List ℕ) (rows : List DataRow) (end : ℕ) (old new : UploadsState) → IsSealedNext bytes rows end old new
+    (bytes : List ℕ) (rows : SealedRows) (end : ℕ) (old new : UploadsState) → IsSealedNext bytes rows end old new
     → KeepsImage old.queue new.queue
 
 abbrev pub RoomKeepsImage : Type 0
@@ -47,6 +49,19 @@ RoomKeepsImage = (old new : UploadsState) → IsNotSealed old new → KeepsImage
 abbrev pub JobsKeepImage : Type 0
 JobsKeepImage = (number : ℕ) (started : Bool) (uploads : UploadsState)
     → KeepsImage uploads.queue (with_job number started uploads).queue
+
+-- while objects are pinned, and while removals begin, fail and are done: no sector is in an object that is removed
+abbrev pub PinsKeepImage : Type 0
+PinsKeepImage =
+    (change : ObjectRow → ObjectRow) (number : ℕ) (old new : UploadsState)
+    → ((row : ObjectRow) → ((change row).front ≡ row.front) × ((change row).number ≡ row.number))
+    → HasChangedPins change number old new → KeepsImage old.queue new.queue
+
+abbrev pub RemovalsKeepImage : Type 0
+RemovalsKeepImage =
+    (number : ℕ) (receipt : ReceiptState) (old new : UploadsState) → IsUploads old → IsUploads new
+    → TakesRemoval number receipt old new ⊎ FinishesRemoval number old new ⊎ TakesBackRemoval number receipt old new
+    → KeepsImage old.queue new.queue
 
 -- receipts stay those of their objects' own bytes while puts are done whose receipts are for the sealed bytes
 abbrev pub DoneKeepsReceipts : Type 0
@@ -64,7 +79,7 @@ abbrev pub DoneMakesImage : Type 0
 DoneMakesImage =
     (volume : Expected) (data_at : ℕ → ℕ) (stream : Stream) (old new : UploadsState) (number : ℕ) (bytes : List ℕ)
     (receipt : ReceiptState) (image : Image)
-    → IsUploads old.queue old.window → AreOfStream volume data_at stream old
+    → IsUploads old → AreOfStream volume data_at stream old
     → IsPutDone number receipt old new → IsOut old number bytes → IsReceiptFor bytes receipt → HasOwnReceipts old.queue
     → All (EndsBy (length image)) (settled_entries stream old.queue new.queue)
     → HasImage image old.queue → HasImage (after image (settled_entries stream old.queue new.queue)) new.queue
@@ -72,10 +87,8 @@ DoneMakesImage =
 -- An object that is adopted, the data object of these entries, makes it the image after them.
 abbrev pub AdoptingMakesImage : Type 0
 AdoptingMakesImage =
-    (volume : Expected) (end_before : ℕ) (entries : List Entry) (object : StreamObject) (bytes : List ℕ) (rows : List DataRow)
-    (end : ℕ) (receipt : ReceiptState)
-    (old new : UploadsState) (image : Image)
-    → IsUploads old.queue old.window → IsSealedOf (expected_at volume (old.queue.frontier + 1) end_before) entries object
-    (just_sealed bytes rows end)
+    (volume : Expected) (end_before : ℕ) (entries : List Entry) (bytes : List ℕ) (rows : List DataRow) (end : ℕ)
+    (receipt : ReceiptState) (old new : UploadsState) (image : Image)
+    → IsUploads old → HoldsEntries (expected_at volume (old.queue.frontier + 1) end_before) entries end bytes rows
     → IsAdopted rows end receipt old new → IsReceiptFor bytes receipt → All (EndsBy (length image)) entries
     → HasImage image old.queue → HasImage (after image entries) new.queue

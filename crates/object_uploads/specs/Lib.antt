@@ -2,8 +2,11 @@ pub mod State
 pub mod Queue
 pub mod Order
 pub mod Receipts
-pub mod Invariant
 pub mod Changes
+pub mod Checkpoint
+pub mod Removal
+pub mod Invariant
+pub mod Opening
 pub mod Stream
 pub mod Laws
 pub mod Image

@@ -1,6 +1,6 @@
 -- Contract: what changes the objects of a volume in the order of their numbers.
-use Rattle.std.specs.Prelude.{◌≡◌, ℕ, ◌+◌, ◌-◌, ◌/◌, ◌≤◌, ◌==◌, zero, suc, Bool, true, Option, Some, None, IsSome, List, [], ◌∷◌}
-use Rattle.std.specs.Prelude.{◌++◌, length, map, find, take, drop, option_map, option_to_list, if◌then◌else◌}
+use Rattle.std.specs.Prelude.{◌≡◌, ℕ, ◌+◌, ◌-◌, ◌/◌, ◌≤◌, ◌==◌, zero, suc, Bool, true, false, Option, Some, None, IsSome, IfSome}
+use Rattle.std.specs.Prelude.{List, [], ◌∷◌, ◌++◌, length, map, find, take, drop, option_map, option_to_list, if◌then◌else◌}
 use Rattle.std.specs.List.{AllByRecursion, sum_by}
 use Rattle.std.specs.Option.{option_or}
 use Rattle.lsvd_base.specs.declared.entry.Entry.{Entry}
@@ -9,11 +9,13 @@ use Rattle.object_format.specs.declared.data_row.DataRow.{DataRow}
 use Rattle.object_format.specs.Layout.{data_front_sectors}
 use Rattle.object_stream.specs.declared.owner.Owner.{Owner}
 use Rattle.object_table.specs.declared.row.ObjectRow.{ObjectRow}
-use Rattle.object_table.specs.Table.{row_of, new_row, added}
+use Rattle.object_table.specs.Table.{row_of, new_row, added, acknowledged}
 use Rattle.volume_maps.specs.declared.place.ObjectPlace.{ObjectPlace}
 use Rattle.volume_maps.specs.Places.{place_left_by}
-use Rattle.volume_maps.specs.Maps.{MapsState, RowsFit, settled_at, logged_at, settled_by, logged_by}
+use Rattle.volume_maps.specs.Maps.{MapsState, settled_at, logged_at, settled_by, logged_by}
 use Rattle.volume_maps.specs.Live.{HasSameObjects}
+use Rattle.object_uploads.specs.declared.rows.SealedRows.{SealedRows}
+use Rattle.object_uploads.specs.declared.rows.SealedRows.TheVariants.{Data, Checkpoint}
 use Rattle.object_uploads.specs.State.{SealedState, NumberedReceipt, StoredObject, QueueState}
 
 -- the objects with the one at an index changed
@@ -23,7 +25,7 @@ with_at zero change (sealed ∷ more) = change sealed ∷ more
 with_at (suc index) change (sealed ∷ more) = sealed ∷ with_at index change more
 
 -- an object that was just sealed, whose bytes are there twice
-abbrev pub just_sealed : (bytes : List ℕ) → List DataRow → (end : ℕ) → SealedState
+abbrev pub just_sealed : (bytes : List ℕ) → SealedRows → (end : ℕ) → SealedState
 just_sealed bytes rows end = record { bytes = bytes; rows = rows; end = end; has_spare = true; receipt = None }
 
 -- an object whose put begins, or whose bytes came back
@@ -54,20 +56,38 @@ front_of rows = data_front_sectors (length rows)
 abbrev pub payload_of : (size : ℕ) → List DataRow → ℕ
 payload_of size rows = size / 512 - front_of rows
 
--- these may be the rows of an object: it has 65,536 at most, and they end below 2^63, and their places in its payload below 2^32
-pub record FitObject (rows : List DataRow) : Type 0 where
+-- a row lies inside a volume of so many sectors, and what it has of a payload inside the greatest that there is
+pub record FitsVolume (sectors : ℕ) (row : DataRow) : Type 0 where
+  pub sectors_are : row.lba + row.sectors ≤ sectors
+  pub place : IfSome row.place (λ place. place + row.sectors ≤ 131071)
+
+-- these may be the rows of a data object of such a volume: it has 65,536 at most, and each fits
+pub record FitObject (sectors : ℕ) (rows : List DataRow) : Type 0 where
   pub count : length rows ≤ 65536
-  pub fit : RowsFit rows
+  pub fit : AllByRecursion (FitsVolume sectors) rows
 
--- how many rows an object has
+-- the same of any sealed object's
+abbrev pub FitSealed : (sectors : ℕ) → SealedRows → Type 0
+FitSealed sectors (Data list) = FitObject sectors list.items
+FitSealed sectors Checkpoint = Unit {0}
+
+-- the rows are those of a checkpoint
+abbrev pub is_checkpoint : SealedRows → Bool
+is_checkpoint (Data list) = false
+is_checkpoint Checkpoint = true
+
+-- how many rows change the maps
+abbrev pub count_of_rows : SealedRows → ℕ
+count_of_rows (Data list) = length list.items
+count_of_rows Checkpoint = 0
+
 abbrev pub row_count : SealedState → ℕ
-row_count sealed = length sealed.rows
+row_count sealed = count_of_rows sealed.rows
 
--- the maps have room for the changes of all rows of the objects past the frontier, and these fit
+-- the maps have room for the changes of all rows of the objects past the frontier
 pub record HasRoomForRows (sealed : List SealedState) (maps : MapsState) : Type 0 where
   pub settled : sum_by row_count sealed ≤ maps.settled.spare
   pub log : sum_by row_count sealed ≤ maps.log.spare
-  pub fit : AllByRecursion (λ sealed. FitObject sealed.rows) sealed
 
 -- and for a change of the log's map beside these
 abbrev pub HasRoomForEntry : QueueState → Type 0
@@ -75,10 +95,10 @@ HasRoomForEntry queue = sum_by row_count queue.sealed + 1 ≤ queue.maps.log.spa
 
 -- there is room for one object more with these rows: a place for it, for its receipt and in the table of objects, and for the
 -- changes of its rows beside those of the others
-pub record HasRoomForObject (rows : List DataRow) (queue : QueueState) : Type 0 where
+pub record HasRoomForObject (rows : SealedRows) (queue : QueueState) : Type 0 where
   pub place : 1 ≤ queue.places
-  pub settled : sum_by row_count queue.sealed + length rows ≤ queue.maps.settled.spare
-  pub log : sum_by row_count queue.sealed + length rows ≤ queue.maps.log.spare
+  pub settled : sum_by row_count queue.sealed + count_of_rows rows ≤ queue.maps.settled.spare
+  pub log : sum_by row_count queue.sealed + count_of_rows rows ≤ queue.maps.log.spare
 
 -- the places and the objects are as before
 pub record HasSamePlaces (old new : MapsState) : Type 0 where
@@ -97,8 +117,23 @@ pub record IsEntered (entry : Entry) (seq data_at : ℕ) (old new : QueueState) 
   pub frontier : new.frontier ≡ old.frontier
   pub end : new.end ≡ old.end
   pub receipts : new.receipts ≡ old.receipts
+  pub removal : new.removal ≡ old.removal
 
 -- ---- settling
+
+-- a sector's place after the object of a number was settled, and after those were that come after one of a number
+abbrev pub settled_by_rows : (number : ℕ) → SealedRows → Option ObjectPlace → ℕ → Option ObjectPlace
+settled_by_rows number (Data list) before k = settled_by number list.items before k
+settled_by_rows number Checkpoint before k = before
+
+abbrev pub settled_by_all : (number : ℕ) → List SealedState → Option ObjectPlace → ℕ → Option ObjectPlace
+settled_by_all number [] before k = before
+settled_by_all number (sealed ∷ more) before k =
+    settled_by_all (number + 1) more (settled_by_rows (number + 1) sealed.rows before k) k
+
+-- the places in the objects' map once all objects past the frontier are settled
+abbrev pub sealed_at : QueueState → ℕ → Option ObjectPlace
+sealed_at queue k = settled_by_all queue.frontier queue.sealed (settled_at queue.maps k) k
 
 -- the end of the last of some objects, or the one before them where there is none
 abbrev pub end_of_last : ℕ → List SealedState → ℕ
@@ -143,11 +178,21 @@ pub record SettlesObject (number size : ℕ) (rows : List DataRow) (end : ℕ) (
   pub logged : (k : ℕ) → logged_at new k ≡ logged_by end rows (logged_at old k) k
   pub objects : HasSameObjects (added (new_row number (payload_of size rows) (front_of rows)) old.objects) new.objects
 
+-- the checkpoint of a number was: it changes no place, and from then on the table's objects are passed by it
+pub record SettlesCheckpoint (number : ℕ) (old new : MapsState) : Type 0 where
+  pub settled : new.settled ≡ old.settled
+  pub log : new.log ≡ old.log
+  pub objects : new.objects ≡ acknowledged number old.objects
+
+abbrev pub SettlesSealed : (number size : ℕ) → SealedRows → (end : ℕ) → (old new : MapsState) → Type 0
+SettlesSealed number size (Data list) end old new = SettlesObject number size list.items end old new
+SettlesSealed number size Checkpoint end old new = SettlesCheckpoint number old new
+
 -- those after one of a number were, in their order
 abbrev pub SettlesObjects : (number : ℕ) → List SealedState → (old new : MapsState) → Type 0
 SettlesObjects number [] old new = new ≡ old
 SettlesObjects number (sealed ∷ more) old new =
-    (middle : MapsState) × SettlesObject (number + 1) (length sealed.bytes) sealed.rows sealed.end old middle
+    (middle : MapsState) × SettlesSealed (number + 1) (length sealed.bytes) sealed.rows sealed.end old middle
     × SettlesObjects (number + 1) more middle new
 
 -- the first objects past the frontier, as many as this, were settled: all of them are acknowledged
@@ -158,6 +203,7 @@ pub record IsSettledBy (count : ℕ) (old new : QueueState) : Type 0 where
   pub frontier : new.frontier ≡ old.frontier + count
   pub end : new.end ≡ end_of_last old.end (take count old.sealed)
   pub sealed : new.sealed ≡ drop count old.sealed
+  pub removal : new.removal ≡ old.removal
   pub maps : SettlesObjects old.frontier (take count old.sealed) old.maps new.maps
 
 -- The object of the next number, with these rows and this end, was settled, and the store gave this for it. None is past it.
@@ -166,6 +212,7 @@ pub record IsNextSettled (rows : List DataRow) (end : ℕ) (receipt : ReceiptSta
   pub ends : new.end ≡ end
   pub sealed : new.sealed ≡ []
   pub receipts : new.receipts ≡ old.receipts ++ record { number = old.frontier + 1; receipt = receipt } ∷ []
+  pub removal : new.removal ≡ old.removal
   pub maps : SettlesObject (old.frontier + 1) receipt.size rows end old.maps new.maps
 
 -- an acknowledged object does not stand first

@@ -2,9 +2,9 @@
 use Rattle.std.specs.Prelude.{ℕ, Bool, Option, List}
 use Rattle.lsvd_names.specs.declared.name.ObjName.{ObjName}
 use Rattle.lsvd_objstore.specs.Store.{ReceiptState}
-use Rattle.object_format.specs.declared.data_row.DataRow.{DataRow}
 use Rattle.upload_window.specs.Window.{WindowState}
 use Rattle.volume_maps.specs.Maps.{MapsState}
+use Rattle.object_uploads.specs.declared.rows.SealedRows.{SealedRows}
 
 -- a put that is to be made
 pub record JobState : Type 0 where
@@ -14,7 +14,7 @@ pub record JobState : Type 0 where
 -- an object past the frontier
 pub record SealedState : Type 0 where
   pub bytes : List ℕ
-  pub rows : List DataRow
+  pub rows : SealedRows
   -- how many entries of the history are in it and in the objects before it
   pub end : ℕ
   -- whether it has its bytes a second time, for the next put
@@ -39,16 +39,19 @@ pub record QueueState : Type 0 where
   pub end : ℕ
   -- the objects past the frontier, each numbered one more than the one before it
   pub sealed : List SealedState
-  -- what the store gave for objects up to the frontier, by ascending number
+  -- what the store gave for objects up to the frontier, by ascending number, but for one whose removal is out
   pub receipts : List NumberedReceipt
+  -- the object whose removal is out
+  pub removal : Option ℕ
   -- which object up to the frontier has each sector, where the log has those that later entries changed, and the objects up to
   -- the frontier
   pub maps : MapsState
   -- for how many more sealed objects, and for as many receipts and objects of the table, there is room
   pub places : ℕ
 
--- the objects of a volume, and which of them are on their way to the store
+-- the objects of a volume of so many sectors, and which of them are on their way to the store
 pub record UploadsState : Type 0 where
   pub uuid : List ℕ
+  pub sectors : ℕ
   pub queue : QueueState
   pub window : WindowState

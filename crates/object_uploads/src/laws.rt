@@ -1,24 +1,27 @@
 ghost use Rattle.object_uploads.specs.Laws.{RecoveryFindsStream, StreamBegins, EnteringKeepsStream};
-ghost use Rattle.object_uploads.specs.Laws.{SealingKeepsStream, JobsKeepStream, DoneKeepsStream};
+ghost use Rattle.object_uploads.specs.Laws.{SealingKeepsStream, SealingCheckpointKeepsStream};
+ghost use Rattle.object_uploads.specs.Laws.{JobsKeepStream, DoneKeepsStream, RemovalsKeepStream};
 ghost use Rattle.object_uploads.specs.Laws.{AdoptingKeepsStream};
 ghost use Rattle.object_uploads.specs.ImageLaws.{ImageBegins, EnteringKeepsImage, SealingKeepsImage};
-ghost use Rattle.object_uploads.specs.ImageLaws.{RoomKeepsImage, JobsKeepImage, DoneKeepsReceipts};
-ghost use Rattle.object_uploads.specs.ImageLaws.{DoneMakesImage, AdoptingMakesImage};
+ghost use Rattle.object_uploads.specs.ImageLaws.{RoomKeepsImage, JobsKeepImage, PinsKeepImage};
+ghost use Rattle.object_uploads.specs.ImageLaws.{RemovalsKeepImage, DoneKeepsReceipts, DoneMakesImage};
+ghost use Rattle.object_uploads.specs.ImageLaws.{AdoptingMakesImage};
 
-/// A law: whatever of the objects past the frontier has landed, a recovery of the store finds the stream up
-/// to the object before the first that is missing: the replay gives the stream's owners, and each object that
-/// these name is there.
+/// A law: whatever of the objects past the frontier has landed, a recovery of the store, which begins at the
+/// newest checkpoint there, finds the stream up to the object before the first that is missing: the replay
+/// gives the stream's owners, and each object that these name is there.
 pub fn a_recovery_finds_the_stream()
     ensures { RecoveryFindsStream }
 {}
 
-/// A law: objects of a stream stay that while entries are entered, and while the first of them are sealed
-/// into data objects; and a stream begins where there is no object past the frontier and no sector has a
-/// place.
+/// A law: objects of a stream stay that while entries are entered, while the first of them are sealed into
+/// data objects, and while checkpoints are sealed; and a stream begins where there is no object past the
+/// frontier.
 pub fn a_stream_grows()
     ensures begins { StreamBegins }
     ensures entered { EnteringKeepsStream }
     ensures sealed { SealingKeepsStream }
+    ensures checkpoint { SealingCheckpointKeepsStream }
 {}
 
 /// A law: objects of a stream stay that while puts begin, fail and are done, in any order.
@@ -27,15 +30,22 @@ pub fn puts_keep_the_stream()
     ensures done { DoneKeepsStream }
 {}
 
+/// A law: objects of a stream stay that while they are pinned, and while removals begin, fail and are done.
+pub fn removals_keep_the_stream()
+    ensures { RemovalsKeepStream }
+{}
+
 /// A law: the image that the objects up to the frontier have, and the receipts of the objects' own bytes,
-/// stay while entries are entered, objects are sealed, and puts begin and fail; and a new volume has the
-/// image of zeros.
+/// stay while entries are entered, objects are sealed, puts begin and fail, objects are pinned, and removals
+/// begin, fail and are done; and a new volume has the image of zeros.
 pub fn the_objects_keep_their_image()
     ensures begins { ImageBegins }
     ensures entered { EnteringKeepsImage }
     ensures sealed { SealingKeepsImage }
     ensures same { RoomKeepsImage }
     ensures jobs { JobsKeepImage }
+    ensures pins { PinsKeepImage }
+    ensures removals { RemovalsKeepImage }
 {}
 
 /// A law: by a put that is done the objects of a stream come to have the image after the entries of the

@@ -8,10 +8,12 @@
 //! and no store.
 #![tactic(auto)]
 
+mod checkpoint;
 mod job;
 mod laws;
 mod queue;
 mod receipts;
+mod rows;
 mod sealed;
 mod uploads;
 
@@ -20,4 +22,5 @@ pub use laws::{
     a_recovery_finds_the_stream, a_stream_grows, an_adopted_object_goes_on_with_the_stream,
     puts_keep_the_stream, puts_make_the_image, the_objects_keep_their_image,
 };
+pub use rows::SealedRows;
 pub use uploads::Uploads;

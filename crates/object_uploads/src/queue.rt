@@ -1,23 +1,37 @@
 ghost use Rattle.std.specs.Prelude.{◌≡◌, ◌+◌, ◌-◌, ◌<◌, ◌≤◌, ◌^◌, ℕ, ◌++◌, ◌∷◌, [], length, OnOk, OnErr};
-ghost use Rattle.std.specs.Prelude.{IsTrue, IsSome, IfSome, IsOk, ◌↔◌, false, true, option_map};
-ghost use Rattle.std.specs.Prelude.{◌/◌};
+ghost use Rattle.std.specs.Prelude.{IsTrue, IsSome, IfSome, IfNone, IfOk, IsOk, ◌↔◌, false, true, option_map};
+ghost use Rattle.std.specs.Prelude.{None, Some, ◌/◌};
 ghost use Rattle.std.specs.List.{sum_by};
 ghost use Rattle.std.specs.VecDeque.{deque_len, deque_capacity};
 ghost use Rattle.lsvd_base.specs.Laws.{first_sector, sector_count};
-ghost use Rattle.volume_maps.specs.Places.{log_number, row_left_by};
-ghost use Rattle.object_uploads.specs.Invariant.{IsOpenAt};
+ghost use Rattle.extent_map.specs.Extents.{place_at, place_after_set};
+ghost use Rattle.object_table.specs.Table.{row_of, without, new_row, acknowledged, with_changed, pinned};
+ghost use Rattle.object_table.specs.Table.{unpinned, IsNewest};
+ghost use Rattle.volume_maps.specs.Places.{log_number, row_left_by, object_on};
+ghost use Rattle.volume_maps.specs.Maps.{settled_at};
+ghost use Rattle.volume_maps.specs.Live.{MayGain, HasSameObjects};
+ghost use Rattle.object_uploads.specs.Checkpoint.{HoldsPlaces};
+ghost use Rattle.object_uploads.specs.Order.{PlacesFitIn};
+ghost use Rattle.object_uploads.specs.Removal.{IsRemovedNext, with_receipt_of};
+ghost use Rattle.object_uploads.specs.Invariant.{IsOpenAt, MapsCanTake, MaySettle, count_out, IsKnown};
+ghost use Rattle.object_uploads.specs.Invariant.{KeepsAllButObjects, KeepsAllButFound, TakesFromQueue};
 ghost use Rattle.object_uploads.specs.State.{QueueState};
 ghost use Rattle.object_uploads.specs.Queue.{with_at, just_sealed, with_spare, with_receipt, front_of};
-ghost use Rattle.object_uploads.specs.Queue.{FitObject, row_count, HasBytesAt, HasRoomForEntry};
+ghost use Rattle.object_uploads.specs.Queue.{HasBytesAt, HasRoomForEntry, end_of_last, sealed_at, row_count};
 ghost use Rattle.object_uploads.specs.Queue.{HasRoomForObject, HasSamePlaces, IsEntered, IsSettledBy};
-ghost use Rattle.object_uploads.specs.Queue.{SettlesObject, IsNextSettled, FirstWaits, stored_at};
+ghost use Rattle.object_uploads.specs.Queue.{SettlesObject, SettlesCheckpoint, IsNextSettled, FirstWaits};
+ghost use Rattle.object_uploads.specs.Queue.{stored_at};
+ghost use Rattle.object_uploads.specs.declared.rows.SealedRows.TheVariants.{Data, Checkpoint};
 ghost use Rattle.object_uploads.specs.Changes.{HasSameSettled};
 
+use crate::checkpoint::write_map;
 use crate::receipts::Receipts;
+use crate::rows::SealedRows;
 use crate::sealed::Sealed;
+use extent_map::{Extent, ExtentMap};
 use lsvd_base::{Entry, ObjectBytes, SECTOR_BYTES};
 use lsvd_objstore::Receipt;
-use object_format::{DataRow, data_front_sectors};
+use object_format::{DataRow, Expected, data_front_sectors};
 use std::alloc::{AllocError, Global};
 use std::collections::VecDeque;
 use std::marker::Model;
@@ -32,6 +46,8 @@ pub(crate) struct Queue<R: Receipt> {
     // The rows of the sealed objects, counted here so that a seal need not go over them.
     rows: usize,
     receipts: Receipts<R>,
+    // The object whose removal is out. There is room for its receipt, which may come back.
+    removal: Option<u64>,
     maps: VolumeMaps,
 }
 
@@ -41,7 +57,7 @@ impl<R: Receipt> Model for Queue<R> {
     ghost use Rattle.std.specs.VecDeque.{deque_capacity};
     ghost use Rattle.object_uploads.specs.State.{QueueState};
     ghost use Rattle.object_uploads.specs.Queue.{row_count, HasRoomForRows};
-    ghost use Rattle.object_uploads.specs.Order.{AreKnown};
+    ghost use Rattle.object_uploads.specs.Invariant.{AllMaySettle, count_out, IsKnown};
 
     ghost Value = { QueueState };
 
@@ -50,24 +66,28 @@ impl<R: Receipt> Model for Queue<R> {
       end = q.end;
       sealed = q.sealed.items;
       receipts = q.receipts.list;
+      removal = q.removal;
       maps = q.maps;
       places = min
-          (min (deque_capacity q.sealed - length q.sealed.items) (q.receipts.spare - length q.sealed.items))
+          (min (deque_capacity q.sealed - length q.sealed.items)
+          (q.receipts.spare - (length q.sealed.items + count_out q.removal)))
           (q.maps.objects.spare - length q.sealed.items);
     } };
 
     ghost invariant = { λ q.
         HasRoomForRows q.sealed.items q.maps
         × (q.rows ≡ sum_by row_count q.sealed.items)
-        × AreKnown (record {
+        × IsKnown (record {
           frontier = q.frontier;
           end = q.end;
           sealed = q.sealed.items;
           receipts = q.receipts.list;
+          removal = q.removal;
           maps = q.maps;
           places = 0;
         })
-        × (length q.sealed.items ≤ q.receipts.spare)
+        × AllMaySettle q.sealed.items
+        × (length q.sealed.items + count_out q.removal ≤ q.receipts.spare)
         × (length q.sealed.items ≤ q.maps.objects.spare)
         × (q.frontier + length q.sealed.items < 2 ^ 64) };
 }
@@ -79,6 +99,7 @@ impl<R: Receipt> Queue<R> {
         ensures end { result.end ≡ end }
         ensures sealed { result.sealed ≡ [] }
         ensures receipts { result.receipts ≡ [] }
+        ensures removal { result.removal ≡ None }
         ensures settled { result.maps.settled.rows ≡ [] }
         ensures log { result.maps.log.rows ≡ [] }
         ensures objects { result.maps.objects.rows ≡ [] }
@@ -90,6 +111,7 @@ impl<R: Receipt> Queue<R> {
             sealed: VecDeque::new(alloc),
             rows: 0,
             receipts: Receipts::new(alloc),
+            removal: None,
             maps: VolumeMaps::new(alloc),
         }
     }
@@ -100,28 +122,36 @@ impl<R: Receipt> Queue<R> {
         &mut self,
         object: ObjectBytes,
         spare: ObjectBytes,
-        rows: Vec<DataRow>,
+        rows: SealedRows,
         end: u64,
     ) -> Result<(), AllocError>
         requires spare { spare ≡ object }
-        requires fit { FitObject rows.items }
+        requires fit { MaySettle rows }
         requires numbers { self.old.frontier + length self.old.sealed + 1 < 2 ^ 64 }
-        ensures sealed { OnOk result (self.new.sealed ≡ self.old.sealed ++ just_sealed object rows.items
+        ensures sealed { OnOk result (self.new.sealed ≡ self.old.sealed ++ just_sealed object rows
             end ∷ []) }
-        ensures succeeds { HasRoomForObject rows.items self.old → IsOk result }
+        ensures succeeds { HasRoomForObject rows self.old → IsOk result }
         ensures same { OnErr result (self.new.sealed ≡ self.old.sealed) }
         ensures frontier { self.new.frontier ≡ self.old.frontier }
         ensures end { self.new.end ≡ self.old.end }
         ensures receipts { self.new.receipts ≡ self.old.receipts }
+        ensures removal { self.new.removal ≡ self.old.removal }
         ensures places { HasSamePlaces self.old.maps self.new.maps }
         ensures log_kept { self.old.maps.log.spare ≤ self.new.maps.log.spare }
     {
         // The room of a map is a `usize`; so rows that there is room for are not too many to be counted.
         let _spare = self.maps.log_spare();
-        let Some(all) = self.rows.checked_add(rows.len()) else {
+        let Some(all) = self.rows.checked_add(rows.count()) else {
             return Err(AllocError);
         };
-        make_room(&mut self.sealed, &mut self.receipts, &mut self.maps, all)?;
+        let receipts = self.receipts_to_come();
+        make_room(
+            &mut self.sealed,
+            &mut self.receipts,
+            &mut self.maps,
+            receipts,
+            all,
+        )?;
         self.rows = all;
         self.sealed
             .push_back_reserved(Sealed::new(object, spare, rows, end));
@@ -147,21 +177,245 @@ impl<R: Receipt> Queue<R> {
         let sealed = self.sealed.pop_front().unwrap();
         let size = sealed.size();
         let (rows, end, receipt) = sealed.into_parts();
-        self.rows -= rows.len();
-        self.settle_object(size, rows.as_slice(), end, receipt.unwrap());
+        self.rows -= rows.count();
+        match &rows {
+            SealedRows::Data(rows) => {
+                self.settle_object(size, rows.as_slice(), end, receipt.unwrap());
+            }
+            SealedRows::Checkpoint => self.settle_checkpoint(end, receipt.unwrap()),
+        }
     }
 
-    // Settles an object of so many bytes that comes after the frontier and before all that are past it. There
-    // is room for one object more, and it fits.
-    fn settle_object(&mut self, size: u64, rows: &[DataRow], end: u64, receipt: R)
-        requires room { HasRoomForObject rows.now self.old }
-        requires fit { FitObject rows.now }
+    // Settles the checkpoint after the frontier and before all objects that are past it. There is room for
+    // one object more.
+    fn settle_checkpoint(&mut self, end: u64, receipt: R)
+        requires room { HasRoomForObject Checkpoint self.old }
         requires numbers { self.old.frontier + length self.old.sealed + 1 < 2 ^ 64 }
         ensures frontier { self.new.frontier ≡ self.old.frontier + 1 }
         ensures end { self.new.end ≡ end }
         ensures sealed { self.new.sealed ≡ self.old.sealed }
         ensures receipts { self.new.receipts ≡ self.old.receipts
             ++ record { number = self.old.frontier + 1; receipt = R.state receipt } ∷ [] }
+        ensures removal { self.new.removal ≡ self.old.removal }
+        ensures maps { SettlesCheckpoint (self.old.frontier + 1) self.old.maps self.new.maps }
+    {
+        self.frontier += 1;
+        self.end = end;
+        self.maps.acknowledge_checkpoint(self.frontier);
+        self.receipts.push(self.frontier, receipt);
+    }
+
+    // The checkpoint under the expected number, with this end, of the objects' map as it is once all objects
+    // past the frontier are settled. The one error is out of memory: where rows are to be settled before it,
+    // the map is copied.
+    pub(crate) fn checkpoint(
+        &self,
+        alloc: Global,
+        expected: &Expected,
+        end: u64,
+    ) -> Result<ObjectBytes, AllocError>
+        requires ends { expected.now.end_before ≡ Some end }
+        requires number { 0 < expected.now.number }
+        requires limit { expected.now.number < 2 ^ 64 }
+        requires sectors { expected.now.sectors ≤ 2147483648 }
+        requires fit { PlacesFitIn expected.now.sectors (expected.now.number - 1) (sealed_at self.now) }
+        ensures { IfOk result (λ bytes. HoldsPlaces bytes expected.now end (sealed_at self.now)) }
+    {
+        if self.rows == 0 {
+            return write_map(alloc, expected, end, self.maps.settled());
+        }
+        let map = self.sealed_map(alloc)?;
+        write_map(alloc, expected, end, &map)
+    }
+
+    // A copy of the objects' map in which all objects past the frontier are settled.
+    fn sealed_map(&self, alloc: Global) -> Result<ExtentMap<ObjectPlace>, AllocError>
+        ensures { IfOk result (λ map. (k : ℕ) → place_at object_on map.rows k ≡ sealed_at self.now k) }
+    {
+        let mut map = self.maps.settled().copy(alloc, self.rows)?;
+        for index in 0..self.sealed.len() {
+            self.sealed[index].settle_in(&mut map, self.frontier + index as u64 + 1);
+        }
+        Ok(map)
+    }
+
+    // The end of the last object.
+    pub(crate) fn end_of_last(&self) -> u64
+        ensures { result ≡ end_of_last self.now.end self.now.sealed }
+    {
+        match self.sealed.back() {
+            Some(sealed) => sealed.end(),
+            None => self.end,
+        }
+    }
+
+    // The object whose removal is out.
+    pub(crate) fn removal(&self) -> Option<u64>
+        ensures { result ≡ self.now.removal }
+    {
+        self.removal
+    }
+
+    // Begins the removal of the object that is removed next, and takes its receipt. None is where a removal
+    // is out, and where no object may be removed.
+    pub(crate) fn take_remove(&mut self) -> Option<(u64, R)>
+        ensures next { IsRemovedNext self.old.removal self.old.maps.objects
+            (option_map (λ taken. taken.0) result) }
+        ensures taken { IfSome result (λ taken. TakesFromQueue taken.0 (R.state taken.1) self.old self.new) }
+        ensures same { IfNone result (self.new ≡ self.old) }
+        ensures known { IfSome result (λ taken. IsKnown self.new) }
+    {
+        if self.removal.is_some() {
+            return None;
+        }
+        let number = self.maps.removable()?;
+        let receipt = self.receipts.take(number).unwrap();
+        self.removal = Some(number);
+        Some((number, receipt))
+    }
+
+    // The removal that is out, that of the object of this number, is done.
+    pub(crate) fn remove_done(&mut self, number: u64)
+        requires { self.old.removal ≡ Some number }
+        ensures rest { KeepsAllButObjects self.old self.new }
+        ensures receipts { self.new.receipts ≡ self.old.receipts }
+        ensures removal { self.new.removal ≡ None }
+        ensures rows { self.new.maps.objects.rows ≡ without number self.old.maps.objects.rows }
+        ensures checkpoint { self.new.maps.objects.checkpoint ≡ self.old.maps.objects.checkpoint }
+        ensures known { IsKnown self.new }
+    {
+        self.removal = None;
+        self.maps.drop_object(number);
+    }
+
+    // It failed, and its receipt comes back.
+    pub(crate) fn remove_failed(&mut self, number: u64, receipt: R)
+        requires { self.old.removal ≡ Some number }
+        ensures rest { KeepsAllButObjects self.old self.new }
+        ensures receipts { self.new.receipts ≡ with_receipt_of number (R.state receipt) self.old.receipts }
+        ensures removal { self.new.removal ≡ None }
+        ensures objects { self.new.maps.objects ≡ self.old.maps.objects }
+        ensures known { IsKnown self.new }
+    {
+        self.removal = None;
+        self.receipts.give_back(number, receipt);
+    }
+
+    // Pins an object once more; one that is not known changes nothing. It has fewer than 2^64 - 1 pins.
+    pub(crate) fn pin(&mut self, number: u64)
+        requires { IfSome (row_of number self.old.maps.objects.rows) (λ row. row.pins + 1 < 2 ^ 64) }
+        ensures rest { KeepsAllButObjects self.old self.new }
+        ensures receipts { self.new.receipts ≡ self.old.receipts }
+        ensures removal { self.new.removal ≡ self.old.removal }
+        ensures objects { self.new.maps.objects ≡ with_changed pinned number self.old.maps.objects }
+        ensures known { IsKnown self.new }
+    {
+        self.maps.pin(number);
+    }
+
+    // Gives one pin of an object back; one that is not known changes nothing. It has a pin.
+    pub(crate) fn unpin(&mut self, number: u64)
+        requires { IfSome (row_of number self.old.maps.objects.rows) (λ row. 0 < row.pins) }
+        ensures rest { KeepsAllButObjects self.old self.new }
+        ensures receipts { self.new.receipts ≡ self.old.receipts }
+        ensures removal { self.new.removal ≡ self.old.removal }
+        ensures objects { self.new.maps.objects ≡ with_changed unpinned number self.old.maps.objects }
+        ensures known { IsKnown self.new }
+    {
+        self.maps.unpin(number);
+    }
+
+    // Adds an object that was found in the store, with a greater number than those before it, up to the
+    // frontier. No object is past that, and no removal is out.
+    pub(crate) fn add_found(
+        &mut self,
+        number: u64,
+        payload: u64,
+        front: u64,
+        receipt: R,
+    ) -> Result<(), AllocError>
+        requires newest { IsNewest self.old.maps.objects number }
+        requires within { number ≤ self.old.frontier }
+        requires none { self.old.sealed ≡ [] }
+        requires no_removal { self.old.removal ≡ None }
+        ensures rest { KeepsAllButFound self.old self.new }
+        ensures receipts { OnOk result (self.new.receipts ≡ self.old.receipts
+            ++ record { number = number; receipt = R.state receipt } ∷ []) }
+        ensures settled { self.new.maps.settled.rows ≡ self.old.maps.settled.rows }
+        ensures rows { OnOk result (self.new.maps.objects.rows ≡ self.old.maps.objects.rows
+            ++ new_row number payload front ∷ []) }
+        ensures checkpoint { self.new.maps.objects.checkpoint ≡ self.old.maps.objects.checkpoint }
+        ensures same { OnErr result (self.new.receipts ≡ self.old.receipts) }
+        ensures same_rows { OnErr result (self.new.maps.objects.rows ≡ self.old.maps.objects.rows) }
+        ensures known { OnOk result (IsKnown self.new) }
+    {
+        self.receipts.reserve(1)?;
+        self.maps.reserve(0, 0, 1)?;
+        self.maps.add_object(number, payload, front);
+        self.receipts.push(number, receipt);
+        Ok(())
+    }
+
+    // Enters a row of the checkpoint at the frontier into the objects' map. No object is past the frontier,
+    // and no removal is out.
+    pub(crate) fn map_found(&mut self, row: &Extent<ObjectPlace>) -> Result<(), AllocError>
+        requires range { row.now.lba + row.now.sectors < 2 ^ 63 }
+        requires places { row.now.place.sector + row.now.sectors < 2 ^ 32 }
+        requires known { MayGain row.now.place.number self.old.maps.objects }
+        requires none { self.old.sealed ≡ [] }
+        requires no_removal { self.old.removal ≡ None }
+        ensures rest { KeepsAllButFound self.old self.new }
+        ensures receipts { self.new.receipts ≡ self.old.receipts }
+        ensures settled { OnOk result ((k : ℕ) → settled_at self.new.maps k
+            ≡ place_after_set object_on row.now.lba row.now.sectors row.now.place (settled_at self.old.maps)
+            k) }
+        ensures objects { HasSameObjects self.old.maps.objects self.new.maps.objects }
+        ensures same { OnErr result (self.new.maps.settled.rows ≡ self.old.maps.settled.rows) }
+        ensures same_rows { OnErr result (self.new.maps.objects.rows ≡ self.old.maps.objects.rows) }
+        ensures known { OnOk result (IsKnown self.new) }
+    {
+        self.maps.reserve(1, 0, 0)?;
+        self.maps.map_sectors(row.lba, row.sectors, row.place);
+        Ok(())
+    }
+
+    // Counts the checkpoint at the frontier itself. No object is past it, and no removal is out.
+    pub(crate) fn begin(&mut self, receipt: R) -> Result<(), AllocError>
+        requires newest { IsNewest self.old.maps.objects self.old.frontier }
+        requires none { self.old.sealed ≡ [] }
+        requires no_removal { self.old.removal ≡ None }
+        ensures rest { KeepsAllButFound self.old self.new }
+        ensures receipts { OnOk result (self.new.receipts ≡ self.old.receipts
+            ++ record { number = self.old.frontier; receipt = R.state receipt } ∷ []) }
+        ensures settled { self.new.maps.settled.rows ≡ self.old.maps.settled.rows }
+        ensures rows { OnOk result (self.new.maps.objects.rows
+            ≡ (acknowledged self.old.frontier self.old.maps.objects).rows) }
+        ensures checkpoint { OnOk result (self.new.maps.objects.checkpoint ≡ self.old.frontier) }
+        ensures same { OnErr result (self.new.receipts ≡ self.old.receipts) }
+        ensures same_objects { OnErr result (HasSamePlaces self.old.maps self.new.maps) }
+        ensures known { OnOk result (IsKnown self.new) }
+    {
+        self.receipts.reserve(1)?;
+        self.maps.reserve(0, 0, 1)?;
+        self.maps.acknowledge_checkpoint(self.frontier);
+        self.receipts.push(self.frontier, receipt);
+        Ok(())
+    }
+
+    // Settles an object of so many bytes that comes after the frontier and before all that are past it. There
+    // is room for one object more, and it fits.
+    fn settle_object(&mut self, size: u64, rows: &[DataRow], end: u64, receipt: R)
+        requires place { 1 ≤ self.old.places }
+        requires settled { sum_by row_count self.old.sealed + length rows.now ≤ self.old.maps.settled.spare }
+        requires log { sum_by row_count self.old.sealed + length rows.now ≤ self.old.maps.log.spare }
+        requires fit { MapsCanTake rows.now }
+        requires numbers { self.old.frontier + length self.old.sealed + 1 < 2 ^ 64 }
+        ensures frontier { self.new.frontier ≡ self.old.frontier + 1 }
+        ensures end { self.new.end ≡ end }
+        ensures sealed { self.new.sealed ≡ self.old.sealed }
+        ensures receipts { self.new.receipts ≡ self.old.receipts
+            ++ record { number = self.old.frontier + 1; receipt = R.state receipt } ∷ [] }
+        ensures removal { self.new.removal ≡ self.old.removal }
         ensures maps { SettlesObject (self.old.frontier + 1) size rows.now end self.old.maps self.new.maps }
     {
         let front = front_of(rows);
@@ -178,21 +432,33 @@ impl<R: Receipt> Queue<R> {
     pub(crate) fn adopt(&mut self, rows: &[DataRow], end: u64, receipt: R) -> Result<(), AllocError>
         requires none { self.old.sealed ≡ [] }
         requires numbers { self.old.frontier + 1 < 2 ^ 64 }
-        requires fit { FitObject rows.now }
+        requires fit { MapsCanTake rows.now }
         ensures settled { OnOk result (IsNextSettled rows.now end (R.state receipt) self.old self.new) }
-        ensures succeeds { HasRoomForObject rows.now self.old → IsOk result }
+        ensures succeeds { 1 ≤ self.old.places → length rows.now ≤ self.old.maps.settled.spare
+            → length rows.now ≤ self.old.maps.log.spare → IsOk result }
         ensures sealed { OnErr result (self.new.sealed ≡ self.old.sealed) }
         ensures same { OnErr result (HasSameSettled self.old self.new) }
     {
+        let receipts = self.receipts_to_come();
         make_room(
             &mut self.sealed,
             &mut self.receipts,
             &mut self.maps,
+            receipts,
             rows.len(),
         )?;
         let size = receipt.len();
         self.settle_object(size, rows, end, receipt);
         Ok(())
+    }
+
+    // How many receipts may yet come, with that of one object more: those of the objects past the frontier,
+    // and that of the object whose removal is out.
+    fn receipts_to_come(&self) -> usize
+        requires { length self.now.sealed + 1 < 2 ^ 63 }
+        ensures { result ≡ length self.now.sealed + count_out self.now.removal + 1 }
+    {
+        self.sealed.len() + self.removal.is_some() as usize + 1
     }
 
     // Settles the objects past the frontier in the order of their numbers, up to the first that is not
@@ -258,6 +524,7 @@ impl<R: Receipt> Queue<R> {
         ensures frontier { self.new.frontier ≡ self.old.frontier }
         ensures end { self.new.end ≡ self.old.end }
         ensures receipts { self.new.receipts ≡ self.old.receipts }
+        ensures removal { self.new.removal ≡ self.old.removal }
         ensures places { HasSamePlaces self.old.maps self.new.maps }
         ensures log_kept { self.old.maps.log.spare ≤ self.new.maps.log.spare }
     {
@@ -311,7 +578,8 @@ impl<R: Receipt> Queue<R> {
 
     // The frontier.
     pub(crate) fn frontier(&self) -> u64
-        ensures { result ≡ self.now.frontier }
+        ensures is { result ≡ self.now.frontier }
+        ensures known { IsKnown self.now }
     {
         self.frontier
     }
@@ -324,22 +592,23 @@ impl<R: Receipt> Queue<R> {
     }
 }
 
-// Makes room for one more object, where all have so many rows then. The one error is out of memory, which
-// comes only where that room is missing.
+// Makes room for one more object, where so many receipts may come and all objects have so many rows then. The
+// one error is out of memory, which comes only where that room is missing.
 fn make_room<R: Receipt>(
     sealed: &mut VecDeque<Sealed<R>>,
     receipts: &mut Receipts<R>,
     maps: &mut VolumeMaps,
+    receipts_to_come: usize,
     rows: usize,
 ) -> Result<(), AllocError>
     requires { length sealed.old.items + 1 < 2 ^ 64 }
     ensures place { OnOk result (deque_len sealed.new < deque_capacity sealed.new) }
-    ensures receipt_room { OnOk result (length sealed.old.items + 1 ≤ receipts.new.spare) }
+    ensures receipt_room { OnOk result (receipts_to_come ≤ receipts.new.spare) }
     ensures object_room { OnOk result (length sealed.old.items + 1 ≤ maps.new.objects.spare) }
     ensures settled_room { OnOk result (rows ≤ maps.new.settled.spare) }
     ensures log_room { OnOk result (rows ≤ maps.new.log.spare) }
     ensures succeeds { length sealed.old.items < deque_capacity sealed.old
-        → length sealed.old.items + 1 ≤ receipts.old.spare
+        → receipts_to_come ≤ receipts.old.spare
         → length sealed.old.items + 1 ≤ maps.old.objects.spare
         → rows ≤ maps.old.settled.spare → rows ≤ maps.old.log.spare → IsOk result }
     ensures sealed { sealed.new.items ≡ sealed.old.items }
@@ -351,7 +620,7 @@ fn make_room<R: Receipt>(
     ensures object_kept { maps.old.objects.spare ≤ maps.new.objects.spare }
 {
     sealed.reserve(1)?;
-    receipts.reserve(sealed.len() + 1)?;
+    receipts.reserve(receipts_to_come)?;
     maps.reserve(rows, rows, sealed.len() + 1)
 }
 

@@ -1,5 +1,6 @@
-ghost use Rattle.std.specs.Prelude.{◌≡◌, ◌+◌, ◌≤◌, ◌++◌, ◌∷◌, [], OnOk, IsOk, option_map};
+ghost use Rattle.std.specs.Prelude.{◌≡◌, ◌+◌, ◌≤◌, ◌++◌, ◌∷◌, [], length, None, OnOk, IsOk, option_map};
 ghost use Rattle.object_uploads.specs.Queue.{receipt_in};
+ghost use Rattle.object_uploads.specs.Removal.{without_receipt, with_receipt_of};
 ghost use Rattle.object_uploads.specs.Receipts.{MayCome};
 
 use lsvd_objstore::Receipt;
@@ -83,6 +84,36 @@ impl<R: Receipt> Receipts<R> {
         {
             Ok(at) => Some(&self.list[at].receipt),
             Err(_) => None,
+        }
+    }
+
+    // Takes out that of the object of a number, if it is there.
+    pub(crate) fn take(&mut self, number: u64) -> Option<R>
+        ensures was { option_map R.state result ≡ receipt_in self.old.list number }
+        ensures list { self.new.list ≡ without_receipt number self.old.list }
+        ensures room { self.new.spare + length self.new.list ≡ self.old.spare + length self.old.list }
+    {
+        match self
+            .list
+            .binary_search_by_key(&number, |known| known.number)
+        {
+            Ok(at) => Some(self.list.remove(at).receipt),
+            Err(_) => None,
+        }
+    }
+
+    // Puts one back in its order, which is not there. There is room for it.
+    pub(crate) fn give_back(&mut self, number: u64, receipt: R)
+        requires room { 1 ≤ self.old.spare }
+        requires absent { receipt_in self.old.list number ≡ None }
+        ensures list { self.new.list ≡ with_receipt_of number (R.state receipt) self.old.list }
+        ensures spare { self.old.spare ≤ self.new.spare + 1 }
+    {
+        if let Err(at) = self
+            .list
+            .binary_search_by_key(&number, |known| known.number)
+        {
+            let _ = self.list.insert(at, Known { number, receipt });
         }
     }
 }

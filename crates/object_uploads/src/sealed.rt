@@ -1,11 +1,17 @@
 ghost use Rattle.std.specs.Prelude.{◌≡◌, true, false, None, Some, IsTrue, IsSome, IfSome, option_map, ◌↔◌};
-ghost use Rattle.std.specs.Prelude.{length};
-ghost use Rattle.object_uploads.specs.Queue.{spare_of, just_sealed, with_spare, with_receipt};
+ghost use Rattle.std.specs.Prelude.{ℕ, ◌+◌, ◌≤◌, length};
+ghost use Rattle.extent_map.specs.Extents.{place_at};
+ghost use Rattle.volume_maps.specs.Places.{object_on};
+ghost use Rattle.object_uploads.specs.Queue.{spare_of, just_sealed, with_spare, with_receipt, row_count};
+ghost use Rattle.object_uploads.specs.Queue.{settled_by_rows};
+ghost use Rattle.object_uploads.specs.Invariant.{MaySettle};
 
+use crate::rows::SealedRows;
+use extent_map::ExtentMap;
 use lsvd_base::ObjectBytes;
 use lsvd_objstore::Receipt;
-use object_format::DataRow;
 use std::marker::Model;
+use volume_maps::ObjectPlace;
 
 // An object past the frontier.
 #[derive(Drop)]
@@ -14,7 +20,7 @@ pub(crate) struct Sealed<R: Receipt> {
     object: ObjectBytes,
     // The same bytes for the next put; none while one is under way.
     spare: Option<ObjectBytes>,
-    rows: Vec<DataRow>,
+    rows: SealedRows,
     end: u64,
     // What the store gave for it, once it is acknowledged.
     receipt: Option<R>,
@@ -29,7 +35,7 @@ impl<R: Receipt> Model for Sealed<R> {
 
     ghost view = { λ s. record {
       bytes = s.object;
-      rows = s.rows.items;
+      rows = s.rows;
       end = s.end;
       has_spare = is_some s.spare;
       receipt = option_map R.state s.receipt;
@@ -43,11 +49,11 @@ impl<R: Receipt> Sealed<R> {
     pub(crate) fn new(
         object: ObjectBytes,
         spare: ObjectBytes,
-        rows: Vec<DataRow>,
+        rows: SealedRows,
         end: u64,
     ) -> Sealed<R>
         requires { spare ≡ object }
-        ensures { result ≡ just_sealed object rows.items end }
+        ensures { result ≡ just_sealed object rows end }
     {
         Sealed {
             object,
@@ -70,6 +76,25 @@ impl<R: Receipt> Sealed<R> {
         ensures { result ≡ length self.now.bytes }
     {
         self.object.len()
+    }
+
+    // How many entries of the history are in it and in the objects before it.
+    pub(crate) fn end(&self) -> u64
+        ensures { result ≡ self.now.end }
+    {
+        self.end
+    }
+
+    // Settles its rows in a map, as those of the object of a number. There is room for a change for each row,
+    // and they fit.
+    pub(crate) fn settle_in(&self, map: &mut ExtentMap<ObjectPlace>, number: u64)
+        requires room { row_count self.now ≤ map.old.spare }
+        requires fit { MaySettle self.now.rows }
+        ensures places { (k : ℕ) → place_at object_on map.new.rows k ≡ settled_by_rows number self.now.rows
+            (place_at object_on map.old.rows k) k }
+        ensures spare { map.old.spare ≤ map.new.spare + row_count self.now }
+    {
+        self.rows.settle_in(map, number);
     }
 
     // Whether it is acknowledged.
@@ -103,8 +128,8 @@ impl<R: Receipt> Sealed<R> {
     }
 
     // Its parts, once it is acknowledged.
-    pub(crate) fn into_parts(self) -> (Vec<DataRow>, u64, Option<R>)
-        ensures rows { result.0.items ≡ self.rows }
+    pub(crate) fn into_parts(self) -> (SealedRows, u64, Option<R>)
+        ensures rows { result.0 ≡ self.rows }
         ensures end { result.1 ≡ self.end }
         ensures receipt { option_map R.state result.2 ≡ self.receipt }
     {

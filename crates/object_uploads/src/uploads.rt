@@ -1,25 +1,34 @@
-ghost use Rattle.std.specs.Prelude.{◌≡◌, ◌+◌, ◌-◌, ◌<◌, ◌≤◌, ◌^◌, ℕ, ◌↔◌, [], length, option_map, IsTrue};
-ghost use Rattle.std.specs.Prelude.{IsOk, IsErr, IfOk, IfErr, IfSome, IfNone, OnOk, OnErr, true, false};
+ghost use Rattle.std.specs.Prelude.{◌≡◌, ◌+◌, ◌-◌, ◌<◌, ◌≤◌, ◌^◌, ℕ, ◌↔◌, [], length, option_map};
+ghost use Rattle.std.specs.Prelude.{IsTrue, IsOk, IsErr, IfOk, IfErr, IfSome, IfNone, OnOk, OnErr, true};
+ghost use Rattle.std.specs.Prelude.{false, Some, None};
 ghost use Rattle.lsvd_base.specs.Laws.{first_sector, sector_count};
 ghost use Rattle.lsvd_names.specs.Names.{numbered_name};
 ghost use Rattle.extent_map.specs.Extents.{place_at, place_in_range, IsShortest, AllFit};
+ghost use Rattle.object_table.specs.Table.{row_of, pinned, unpinned, IsNewest};
 ghost use Rattle.upload_window.specs.Window.{lowest_ready, IsFrontier};
 ghost use Rattle.volume_maps.specs.Places.{volume_on, volume_number, log_number, row_left_by};
 ghost use Rattle.volume_maps.specs.Maps.{volume_place_at};
+ghost use Rattle.volume_maps.specs.Live.{MayGain};
+ghost use Rattle.object_uploads.specs.declared.rows.SealedRows.TheVariants.{Data};
 ghost use Rattle.object_uploads.specs.Queue.{FitObject, HasRoomForEntry, HasRoomForObject, IsEntered};
 ghost use Rattle.object_uploads.specs.Queue.{stored_at};
 ghost use Rattle.object_uploads.specs.Order.{IsUploads};
 ghost use Rattle.object_uploads.specs.Invariant.{IsOpenAt};
 ghost use Rattle.object_uploads.specs.Changes.{index_of, IsSealedNext, IsNotSealed, with_job, IsJobOf, IsOut};
 ghost use Rattle.object_uploads.specs.Changes.{IsPutDone, IsAdopted};
+ghost use Rattle.object_uploads.specs.Checkpoint.{expected_next, HasSealedCheckpoint};
+ghost use Rattle.object_uploads.specs.Removal.{IsRemovedNext, TakesRemoval, FinishesRemoval};
+ghost use Rattle.object_uploads.specs.Removal.{TakesBackRemoval, HasChangedPins};
+ghost use Rattle.object_uploads.specs.Opening.{HasFound, HasMapped, HasBegun};
 
 use crate::job::Job;
 use crate::queue::Queue;
+use crate::rows::SealedRows;
 use extent_map::Extent;
 use lsvd_base::{Entry, ObjectBytes};
 use lsvd_names::ObjName;
 use lsvd_objstore::Receipt;
-use object_format::DataRow;
+use object_format::{DataRow, Expected};
 use std::alloc::{AllocError, Global};
 use std::marker::Model;
 use upload_window::Window;
@@ -33,6 +42,7 @@ use volume_maps::{ObjectPlace, VolumePlace};
 #[derive(Drop)]
 pub struct Uploads<R: Receipt> {
     uuid: Uuid,
+    sectors: u64,
     queue: Queue<R>,
     window: Window,
 }
@@ -43,21 +53,34 @@ impl<R: Receipt> Model for Uploads<R> {
 
     ghost Value = { UploadsState };
 
-    ghost view = { λ u. record { uuid = u.uuid; queue = u.queue; window = u.window } };
+    ghost view = { λ u. record {
+      uuid = u.uuid;
+      sectors = u.sectors;
+      queue = u.queue;
+      window = u.window;
+    } };
 
-    ghost invariant = { λ u. IsUploads u.queue u.window };
+    ghost invariant = { λ u. IsUploads (record {
+      uuid = u.uuid;
+      sectors = u.sectors;
+      queue = u.queue;
+      window = u.window;
+    }) };
 }
 
 impl<R: Receipt> Uploads<R> {
-    /// The volume with this uuid, whose objects up to this number are acknowledged, and have the entries up
-    /// to this end. It takes no memory.
-    pub fn new(alloc: Global, uuid: Uuid, number: u64, end: u64) -> Uploads<R>
+    /// The volume with this uuid and this many sectors, 2^31 at most (a condition), whose objects up to this
+    /// number are acknowledged, and have the entries up to this end. It takes no memory.
+    pub fn new(alloc: Global, uuid: Uuid, sectors: u64, number: u64, end: u64) -> Uploads<R>
+        requires { sectors ≤ 2147483648 }
         ensures uuid { result.uuid ≡ uuid }
+        ensures sectors { result.sectors ≡ sectors }
         ensures window { result.window ≡ record { last = number; objects = [] } }
         ensures frontier { result.queue.frontier ≡ number }
         ensures end { result.queue.end ≡ end }
         ensures sealed { result.queue.sealed ≡ [] }
         ensures receipts { result.queue.receipts ≡ [] }
+        ensures removal { result.queue.removal ≡ None }
         ensures settled { result.queue.maps.settled.rows ≡ [] }
         ensures log { result.queue.maps.log.rows ≡ [] }
         ensures objects { result.queue.maps.objects.rows ≡ [] }
@@ -65,6 +88,7 @@ impl<R: Receipt> Uploads<R> {
     {
         Uploads {
             uuid,
+            sectors,
             queue: Queue::new(alloc, number, end),
             window: Window::new(number),
         }
@@ -72,9 +96,9 @@ impl<R: Receipt> Uploads<R> {
 
     /// Seals a data object, which is given twice, with its rows and the count of entries up to its end, and
     /// answers its number: the next one. Fewer than 16 objects are open, the numbers go on below 2^64 - 1,
-    /// and the rows are 65,536 at most, end below 2^63, and their places in the object below 2^32
-    /// (conditions). The one error is out of memory, which comes only where room for one object more is
-    /// missing, and after which the objects are as before: all that acknowledging it takes is made here.
+    /// and the rows are 65,536 at most, and lie inside the volume, and their places inside the greatest
+    /// payload (conditions). The one error is out of memory, which comes only where room for one object more
+    /// is missing, and after which the objects are as before: all that acknowledging it takes is made here.
     pub fn seal(
         &mut self,
         object: ObjectBytes,
@@ -85,33 +109,180 @@ impl<R: Receipt> Uploads<R> {
         requires places { length self.old.window.objects < 16 }
         requires numbers { self.old.window.last + 1 < 2 ^ 64 - 1 }
         requires spare { spare ≡ object }
-        requires fit { FitObject rows.items }
+        requires fit { FitObject self.old.sectors rows.items }
         ensures number { IfOk result (λ number. number ≡ self.old.window.last + 1) }
-        ensures sealed { OnOk result (IsSealedNext object rows.items end self.old self.new) }
-        ensures succeeds { HasRoomForObject rows.items self.old.queue → IsOk result }
+        ensures sealed { OnOk result (IsSealedNext object (Data rows) end self.old self.new) }
+        ensures succeeds { HasRoomForObject (Data rows) self.old.queue → IsOk result }
         ensures same { OnErr result (IsNotSealed self.old self.new) }
     {
         let number = self.window.last() + 1;
-        self.queue.push(object, spare, rows, end)?;
+        self.queue.push(object, spare, SealedRows::Data(rows), end)?;
         let _ = self.window.enter(number, false);
         Ok(number)
     }
 
+    /// Seals a checkpoint, which holds the objects' map as it is once all objects before it are settled, and
+    /// answers its number: the next one. Fewer than 16 objects are open, and the numbers go on below 2^64 - 1
+    /// (conditions). The one error is out of memory; then nothing changes but room.
+    pub fn seal_checkpoint(&mut self, alloc: Global) -> Result<u64, AllocError>
+        requires places { length self.old.window.objects < 16 }
+        requires numbers { self.old.window.last + 1 < 2 ^ 64 - 1 }
+        ensures number { IfOk result (λ number. number ≡ self.old.window.last + 1) }
+        ensures sealed { OnOk result (HasSealedCheckpoint self.old self.new) }
+        ensures same { OnErr result (IsNotSealed self.old self.new) }
+        ensures order { IsUploads self.old }
+    {
+        let expected = self.expected_next();
+        let end = self.queue.end_of_last();
+        let object = self.queue.checkpoint(alloc, &expected, end)?;
+        let spare = object.share()?;
+        self.queue.push(object, spare, SealedRows::Checkpoint, end)?;
+        let _ = self.window.enter(expected.number, true);
+        Ok(expected.number)
+    }
+
+    /// Begins the removal of the lowest object that may be removed: the newest acknowledged checkpoint has a
+    /// greater number, and does not map it, and no pin is on it. What the store gave for it is handed out.
+    /// None is where there is no such object, and where a removal is out. It takes no memory.
+    pub fn take_remove(&mut self) -> Option<R>
+        ensures next { IsRemovedNext self.old.queue.removal self.old.queue.maps.objects
+            (option_map (λ receipt. (R.state receipt).name.number) result) }
+        ensures named { IfSome result (λ receipt. (R.state receipt).name
+            ≡ numbered_name self.old.uuid (R.state receipt).name.number) }
+        ensures taken { IfSome result (λ receipt. TakesRemoval (R.state receipt).name.number (R.state receipt)
+            self.old self.new) }
+        ensures same { IfNone result (self.new ≡ self.old) }
+        ensures order { IsUploads self.old }
+    {
+        let (_, receipt) = self.queue.take_remove()?;
+        Some(receipt)
+    }
+
+    /// The removal of the object of a number is done. False is where that removal is not out; then nothing
+    /// changes. It takes no memory.
+    pub fn remove_done(&mut self, number: u64) -> bool
+        ensures out { IsTrue result ↔ (self.old.queue.removal ≡ Some number) }
+        ensures done { IsTrue result → FinishesRemoval number self.old self.new }
+        ensures same { result ≡ false → self.new ≡ self.old }
+        ensures order { IsUploads self.old }
+    {
+        if self.queue.removal() != Some(number) {
+            return false;
+        }
+        self.queue.remove_done(number);
+        true
+    }
+
+    /// A removal failed, and a receipt for its object comes back, which serves a later removal. It is handed
+    /// back where the removal of the object that it names is not out; then nothing changes. It takes no
+    /// memory.
+    pub fn remove_failed(&mut self, receipt: R) -> Result<(), R>
+        ensures out { IsOk result ↔ ((self.old.queue.removal ≡ Some (R.state receipt).name.number)
+            × ((R.state receipt).name ≡ numbered_name self.old.uuid (R.state receipt).name.number)) }
+        ensures back { OnOk result (TakesBackRemoval (R.state receipt).name.number (R.state receipt)
+            self.old self.new) }
+        ensures refused { IfErr result (λ back. back ≡ receipt) }
+        ensures same { OnErr result (self.new ≡ self.old) }
+        ensures order { IsUploads self.old }
+    {
+        let name = receipt.name();
+        let number = name.number;
+        if self.queue.removal() != Some(number) || name != ObjName::object(self.uuid, number) {
+            return Err(receipt);
+        }
+        self.queue.remove_failed(number, receipt);
+        Ok(())
+    }
+
+    /// Pins an object once more, so that it is not removed. One that is not known changes nothing. It has
+    /// fewer than 2^64 - 1 pins (a condition). It takes no memory.
+    pub fn pin(&mut self, number: u64)
+        requires { IfSome (row_of number self.old.queue.maps.objects.rows) (λ row. row.pins + 1 < 2 ^ 64) }
+        ensures pinned { HasChangedPins pinned number self.old self.new }
+    {
+        self.queue.pin(number);
+    }
+
+    /// Gives one pin of an object back. One that is not known changes nothing. It has a pin, that of the
+    /// caller (a condition). It takes no memory.
+    pub fn unpin(&mut self, number: u64)
+        requires { IfSome (row_of number self.old.queue.maps.objects.rows) (λ row. 0 < row.pins) }
+        ensures unpinned { HasChangedPins unpinned number self.old self.new }
+    {
+        self.queue.unpin(number);
+    }
+
+    /// Takes up an object that a mount found in the store before the checkpoint at the frontier, with so many
+    /// sectors of payload and so many before it. Its number is greater than those of all that were taken up,
+    /// the receipt has its name, and the checkpoint was not begun with (conditions). The one error is out of
+    /// memory; then nothing changes but room.
+    pub fn add_found(
+        &mut self,
+        number: u64,
+        payload: u64,
+        front: u64,
+        receipt: R,
+    ) -> Result<(), AllocError>
+        requires newest { IsNewest self.old.queue.maps.objects number }
+        requires before { number < self.old.queue.frontier }
+        requires named { (R.state receipt).name ≡ numbered_name self.old.uuid number }
+        requires none { self.old.queue.sealed ≡ [] }
+        requires no_removal { self.old.queue.removal ≡ None }
+        ensures found { OnOk result (HasFound number payload front (R.state receipt) self.old self.new) }
+        ensures same { OnErr result (IsNotSealed self.old self.new) }
+    {
+        self.queue.add_found(number, payload, front, receipt)
+    }
+
+    /// Enters a row of the checkpoint at the frontier into the objects' map. It has sectors, all inside the
+    /// volume, and its places inside the greatest payload, in one of the volume's own objects that was taken
+    /// up; no object is past the frontier, no removal is out, and the checkpoint was not begun with
+    /// (conditions). The one error is out of memory; then nothing changes but room.
+    pub fn map_found(&mut self, row: &Extent<ObjectPlace>) -> Result<(), AllocError>
+        requires inside { row.now.lba + row.now.sectors ≤ self.old.sectors }
+        requires payload { row.now.place.sector + row.now.sectors ≤ 131071 }
+        requires own { row.now.place.level ≡ 0 }
+        requires known { MayGain row.now.place.number self.old.queue.maps.objects }
+        requires none { self.old.queue.sealed ≡ [] }
+        requires no_removal { self.old.queue.removal ≡ None }
+        ensures mapped { OnOk result (HasMapped row.now self.old self.new) }
+        ensures same { OnErr result (IsNotSealed self.old self.new) }
+    {
+        self.queue.map_found(row)
+    }
+
+    /// Begins with the checkpoint at the frontier, whose rows were all entered: it is the newest acknowledged
+    /// one, and the receipt has its name. Its number is greater than those of all objects that were taken up
+    /// (conditions). The one error is out of memory; then nothing changes but room.
+    pub fn begin(&mut self, receipt: R) -> Result<(), AllocError>
+        requires newest { IsNewest self.old.queue.maps.objects self.old.queue.frontier }
+        requires named { (R.state receipt).name ≡ numbered_name self.old.uuid self.old.queue.frontier }
+        requires none { self.old.queue.sealed ≡ [] }
+        requires no_removal { self.old.queue.removal ≡ None }
+        ensures begun { OnOk result (HasBegun (R.state receipt) self.old self.new) }
+        ensures same { OnErr result (IsNotSealed self.old self.new) }
+    {
+        self.queue.begin(receipt)
+    }
+
     /// Counts the next number's object, which is in the store, as acknowledged, and settles it: these are its
     /// rows, the count of entries up to its end, and the receipt that the store gave for it. No object is
-    /// past the frontier, the numbers go on below 2^64 - 1, the end is not before that of the frontier, and
-    /// the rows are 65,536 at most, end below 2^63, and their places in the object below 2^32 (conditions).
+    /// past the frontier, the numbers go on below 2^64 - 1, the end is not before that of the frontier, the
+    /// receipt has the object's name, and the rows are 65,536 at most, and lie inside the volume, and their
+    /// places inside the greatest payload (conditions).
     /// The one error is out of memory, which comes only where room for it is missing; then nothing changes
     /// but room.
     pub fn adopt(&mut self, rows: &[DataRow], end: u64, receipt: R) -> Result<(), AllocError>
         requires none { self.old.queue.sealed ≡ [] }
         requires numbers { self.old.window.last + 1 < 2 ^ 64 - 1 }
         requires order { self.old.queue.end ≤ end }
-        requires fit { FitObject rows.now }
+        requires fit { FitObject self.old.sectors rows.now }
+        requires named { (R.state receipt).name ≡ numbered_name self.old.uuid (self.old.window.last + 1) }
         ensures adopted { OnOk result (IsAdopted rows.now end (R.state receipt) self.old self.new) }
-        ensures succeeds { HasRoomForObject rows.now self.old.queue → IsOk result }
+        ensures succeeds { 1 ≤ self.old.queue.places → length rows.now ≤ self.old.queue.maps.settled.spare
+            → length rows.now ≤ self.old.queue.maps.log.spare → IsOk result }
         ensures same { OnErr result (IsNotSealed self.old self.new) }
-        ensures order { IsUploads self.old.queue self.old.window }
+        ensures order { IsUploads self.old }
     {
         self.queue.adopt(rows, end, receipt)?;
         self.window = Window::new(self.queue.frontier());
@@ -199,7 +370,8 @@ impl<R: Receipt> Uploads<R> {
         ensures entered { IsEntered entry.now seq data_at self.old.queue self.new.queue }
         ensures window { self.new.window ≡ self.old.window }
         ensures uuid { self.new.uuid ≡ self.old.uuid }
-        ensures order { IsUploads self.old.queue self.old.window }
+        ensures sectors { self.new.sectors ≡ self.old.sectors }
+        ensures order { IsUploads self.old }
     {
         self.queue.enter(entry, seq, data_at);
     }
@@ -251,7 +423,7 @@ impl<R: Receipt> Uploads<R> {
     pub fn frontier(&self) -> u64
         ensures is { result ≡ self.now.queue.frontier }
         ensures frontier { IsFrontier self.now.window result }
-        ensures order { IsUploads self.now.queue self.now.window }
+        ensures order { IsUploads self.now }
     {
         self.window.frontier()
     }
@@ -275,6 +447,20 @@ impl<R: Receipt> Uploads<R> {
         ensures { result.now ≡ self.now.window }
     {
         &self.window
+    }
+
+    // What is expected of the next object.
+    fn expected_next(&self) -> Expected
+        requires { self.now.window.last + 1 < 2 ^ 64 }
+        ensures { result ≡ expected_next self.now }
+    {
+        Expected {
+            uuid: *self.uuid.as_bytes(),
+            number: self.window.last() + 1,
+            sectors: self.sectors,
+            ancestors: 0,
+            end_before: Some(self.queue.end_of_last()),
+        }
     }
 
     // The lowest ready number, and where its object stands.

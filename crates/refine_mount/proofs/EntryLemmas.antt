@@ -23,7 +23,7 @@ HasEntriesToFrontier plain = frontier_end plain - plain.end ≤ length plain.ent
 
 module _ (data_at : ℕ → ℕ) (log : PlainLog) where
   entry_goes_on : (entry : Entry) (old new : ObjLogState) (plain : PlainState)
-      → IsUploads old.uploads.queue old.uploads.window → HasEntriesToFrontier plain → ShowsObjects data_at old plain
+      → IsUploads old.uploads → HasEntriesToFrontier plain → ShowsObjects data_at old plain
       → IsAdded entry (data_at (old.batch.first + length old.batch.entries)) old new
       → ShowsObjects data_at new (going_on (entry ∷ []) log plain)
   entry_goes_on entry old new plain uploads has shows added =

@@ -17,7 +17,7 @@ use Rattle.lsvd_base.specs.Range.{is_in_range}
 use Rattle.upload_window.specs.Window.{WindowState}
 use Rattle.object_stream.specs.declared.object.StreamObject.{StreamObject}
 use Rattle.object_stream.specs.declared.owner.Owner.{Owner}
-use Rattle.object_stream.specs.Stream.{Stream, after_objects, end_after, end_at, last_number}
+use Rattle.object_stream.specs.Stream.{Stream, owners, after_objects, end_after, end_at, last_number}
 use Rattle.object_stream.specs.Laws.{from_object}
 use Rattle.volume_maps.specs.declared.place.ObjectPlace.{ObjectPlace}
 use Rattle.volume_maps.specs.Places.{left_at}
@@ -25,7 +25,8 @@ use Rattle.volume_maps.specs.Maps.{settled_at}
 use Rattle.volume_maps.specs.Laws.{place_owner}
 use Rattle.object_uploads.specs.State.{QueueState}
 use Rattle.object_uploads.specs.Queue.{stored_at}
-use Rattle.object_uploads.specs.Stream.{AreSealedOf, AreOfStream}
+use Rattle.object_uploads.specs.Order.{PlaceFits, IsUploads}
+use Rattle.object_uploads.specs.Stream.{IsPlacedIn, AreSealedOf, AreOfStream}
 use Rattle.object_uploads.specs.Image.{HasImage}
 use Rattle.obj_log.specs.State.{ObjLogState}
 use Rattle.obj_log.specs.Changes.{expected_of_volume}
@@ -159,8 +160,14 @@ opened_is_at_rest geometry checkpoint number end image queue limits some from se
 
 -- ---- the list shows it
 
+-- places up to the object that a stream opens after are in none of its own objects
+none_placed : (stream : Stream) (sectors last k : ℕ) (place : Option ObjectPlace) → last ≡ stream.number
+    → IfSome place (PlaceFits sectors last k) → IfSome place (IsPlacedIn stream k)
+none_placed stream sectors last k None same fits = tt
+none_placed stream sectors last k (Some place) same fits = λ own past. absurd (omega (arith, same, fits.number, past))
+
 module _ (uuid : List ℕ) (geometry : Geometry) (checkpoint number end : ℕ) (log : ObjLogState)
-    (list : IsListUpTo uuid geometry number end log)
+    (list : IsListUpTo uuid geometry number end log) (order : IsUploads log.uploads)
     (inside : HasPlacesInside geometry.sectors log.uploads.queue) (image : Image) (has : HasImage image log.uploads.queue) where
   abbrev opened : PlainState
   opened = opened_after geometry checkpoint number end image log.uploads.queue
@@ -171,8 +178,8 @@ module _ (uuid : List ℕ) (geometry : Geometry) (checkpoint number end : ℕ) (
   abbrev frontier : ℕ
   frontier = log.uploads.queue.frontier
 
-  none_sealed : AreSealedOf (expected_of_volume log) frontier log.uploads.queue.end (from_object frontier stream).entries
-      (from_object frontier stream).objects log.uploads.queue.sealed
+  none_sealed : AreSealedOf stream (expected_of_volume log) frontier log.uploads.queue.end (from_object frontier stream).entries
+      (owners stream frontier) (from_object frontier stream).objects log.uploads.queue.sealed
   none_sealed = rw (list.sealed, drop-nil {A = StreamObject} (frontier - number)) tt
 
   are_of_stream : (data_at : ℕ → ℕ) → AreOfStream (expected_of_volume log) data_at stream log.uploads
@@ -185,6 +192,8 @@ module _ (uuid : List ℕ) (geometry : Geometry) (checkpoint number end : ℕ) (
         held_owner_at geometry.sectors log.uploads.queue inside k
         ∙ ap (λ (objects : List StreamObject). after_objects number end [] stream.opening objects k)
         (sym (take-nil (frontier - number)));
+    placed = λ k. none_placed stream log.uploads.sectors frontier k (settled_at log.uploads.queue.maps k) list.frontier
+        (order.places k);
     sealed = none_sealed;
     logged = λ k.
         list.logged k
@@ -199,6 +208,7 @@ module _ (uuid : List ℕ) (geometry : Geometry) (checkpoint number end : ℕ) (
         geometry = list.geometry_is;
         stream = record {
           objects = are_of_stream data_at;
+          sectors = list.sectors ∙ sym (ap (λ (g : Geometry). g.sectors) list.geometry_is);
           first = list.first ∙ sym (end_of_none opened refl (last_number stream));
           entries = list.entries ∙ sym (drop-nil (end_at stream (last_number stream) - end));
         };
@@ -208,9 +218,9 @@ module _ (uuid : List ℕ) (geometry : Geometry) (checkpoint number end : ℕ) (
       }
 
 pub list_shows_some : ListShowsSome
-list_shows_some uuid geometry checkpoint number end log limits some from list inside =
+list_shows_some uuid geometry checkpoint number end log limits some from list order inside =
     let image = list_has_some_image geometry.sectors log inside in (
       opened_after geometry checkpoint number end image.0 log.uploads.queue,
       opened_is_at_rest geometry checkpoint number end image.0 log.uploads.queue limits some from image.1,
-      list_shows uuid geometry checkpoint number end log list inside image.0 image.2,
+      list_shows uuid geometry checkpoint number end log list order inside image.0 image.2,
     )

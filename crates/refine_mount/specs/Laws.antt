@@ -18,6 +18,7 @@ use Rattle.cache_log.specs.Rows.{byte_of, AreNumbered}
 use Rattle.cache_log.specs.Log.{LogState, AreRowsOf, IsTrimmed}
 use Rattle.cache_log.specs.Opening.{AreRowsOfLog, IsOpenedLog}
 use Rattle.cache_log.specs.Committed.{body_of, LeavesEntriesSince, HasSameList, IsReleased}
+use Rattle.object_uploads.specs.Order.{IsUploads}
 use Rattle.obj_log.specs.State.{ObjLogState}
 use Rattle.stopped_volume.specs.Device.{CacheOwner, owner_of}
 use Rattle.plain_disk.specs.declared.log.PlainCommit.{PlainCommit}
@@ -77,7 +78,7 @@ abbrev pub ListShowsSome : Type 0
 ListShowsSome =
     (uuid : List ℕ) (geometry : Geometry) (checkpoint number end : ℕ) (log : ObjLogState)
     → IsTrue (is_within_limits geometry) → 0 < checkpoint → checkpoint ≤ number
-    → IsListUpTo uuid geometry number end log → HasPlacesInside geometry.sectors log.uploads.queue
+    → IsListUpTo uuid geometry number end log → IsUploads log.uploads → HasPlacesInside geometry.sectors log.uploads.queue
     → (plain : PlainState) × IsAtRest geometry checkpoint end plain × ((data_at : ℕ → ℕ) → ShowsObjects data_at log plain)
 
 -- where a list shows a volume at rest, it shows that with some entries more once they were added, whatever its log is

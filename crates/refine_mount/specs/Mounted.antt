@@ -73,5 +73,5 @@ data_in log row_of_none seq = position_of (slice_index_or log.rows (seq - log.fi
 abbrev pub AddsEntries : (data_at : ℕ → ℕ) → List Entry → (old new : ObjLogState) → Type 0
 AddsEntries data_at [] old new = IsSame old new
 AddsEntries data_at (entry ∷ entries) old new =
-    (ready : ObjLogState) × (added : ObjLogState) × IsSame old ready × IsUploads ready.uploads.queue ready.uploads.window
+    (ready : ObjLogState) × (added : ObjLogState) × IsSame old ready × IsUploads ready.uploads
     × IsAdded entry (data_at (ready.batch.first + length ready.batch.entries)) ready added × AddsEntries data_at entries added new

@@ -1,5 +1,5 @@
 -- A put that begins, fails or is done is that of the plain volume.
-use Rattle.std.proofs.Common.{◌≡◌, ℕ, ◌+◌, ◌-◌, ◌<◌, ◌≤◌, ◌||◌, Bool, true, false, cond, Option, Some, List, [], ◌∷◌, length}
+use Rattle.std.proofs.Common.{◌≡◌, ℕ, ◌+◌, ◌-◌, ◌≤◌, ◌||◌, Bool, true, false, cond, Option, Some, List, [], ◌∷◌, length}
 use Rattle.std.proofs.Common.{take, drop, refl}
 use Rattle.std.proofs.Common.{sym, ◌∙◌, ap, subst, arith, take-add}
 use Rattle.std.specs.List.{All}
@@ -20,7 +20,6 @@ use Rattle.object_uploads.specs.Changes.{with_job, IsOut, IsPutDone}
 use Rattle.object_uploads.specs.Order.{IsUploads}
 use Rattle.object_uploads.specs.Image.{IsReceiptFor, HasImage}
 use Rattle.object_uploads.specs.ImageLaws.{settled_entries}
-use Rattle.object_uploads.proofs.OpenLemmas.{started_at, uploads_done, frontier_below}
 use Rattle.batcher.specs.State.{BatchState}
 use Rattle.obj_log.specs.State.{ObjLogState}
 use Rattle.obj_log.specs.Stream.{IsOfStream}
@@ -35,6 +34,7 @@ use Rattle.plain_disk.proofs.EndLemmas.{ends_from, ends_grow}
 use Rattle.refine_objects.specs.Shows.{settled_image, ShowsObjects}
 use Rattle.refine_objects.specs.Laws.{TakenShowsTake, FailedShowsFailed, DoneShowsDone}
 use Rattle.refine_objects.proofs.ShowLemmas.{shown_have_counts}
+use Rattle.refine_objects.proofs.FrontierLemmas.{below_done}
 
 -- ---- a put begins, or fails
 
@@ -117,7 +117,7 @@ module _ (plain : PlainState) (valid : IsPlainVolume plain) where
       ∙ valid.sectors
 
 module _ (data_at : ℕ → ℕ) (old new : ObjLogState) (plain : PlainState) (number : ℕ) (bytes : List ℕ) (receipt : ReceiptState)
-    (uploads : IsUploads old.uploads.queue old.uploads.window) (valid : IsPlainVolume plain)
+    (uploads : IsUploads old.uploads) (valid : IsPlainVolume plain)
     (shows : ShowsObjects data_at old plain)
     (out : IsOut old.uploads number bytes) (tells : IsReceiptFor bytes receipt)
     (done : IsPutDone number receipt old.uploads new.uploads)
@@ -128,14 +128,8 @@ module _ (data_at : ℕ → ℕ) (old new : ObjLogState) (plain : PlainState) (n
   -- the frontier then
   pub done_frontier : new.uploads.queue.frontier ≡ later
   done_frontier =
-      let queue = old.uploads.queue in
-      let found = started_at number (queue.frontier + 1) queue.sealed old.uploads.window.objects uploads.opened out.started in
-      let past : queue.frontier < number = omega (arith, found.0) in
-      let now =
-      uploads_done queue new.uploads.queue old.uploads.window number done.count receipt false uploads past found.1 done.settled
-      done.waits in
-      sym (frontier_below new.uploads.queue (acknowledged number old.uploads.window) now)
-      ∙ ap (λ w. below_open (acknowledged number w)) shows.window
+      sym (below_done old.uploads new.uploads number receipt uploads out.started done)
+      ∙ (ap below_open done.window ∙ ap (λ w. below_open (acknowledged number w)) shows.window)
 
   stream_now : IsOfStream data_at (stream_in plain) new
   stream_now = done_keeps_stream data_at (stream_in plain) old new number receipt uploads shows.stream done batch

@@ -1,3 +1,4 @@
 pub mod ShowLemmas
+pub mod FrontierLemmas
 pub mod SealLemmas
 pub mod JobLemmas

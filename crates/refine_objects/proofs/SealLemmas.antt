@@ -108,7 +108,7 @@ sealed_end plain valid =
 image_same : (plain : PlainState) → IsPlainVolume plain → settled_image (with_sealed plain) ≡ settled_image plain
 image_same plain valid = ap (λ end. after plain.opening (take (end - plain.end) plain.entries)) (sealed_end plain valid)
 
-module _ (data_at : ℕ → ℕ) (old new : ObjLogState) (plain : PlainState) (uploads : IsUploads old.uploads.queue old.uploads.window)
+module _ (data_at : ℕ → ℕ) (old new : ObjLogState) (plain : PlainState) (uploads : IsUploads old.uploads)
     (valid : IsPlainVolume plain) (shows : ShowsObjects data_at old plain) (sealed : HasSealedObject old new) where
   end_is : new.batch.first ≡ end_of_next plain
   end_is =

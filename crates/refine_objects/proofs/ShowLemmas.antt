@@ -1,15 +1,16 @@
 -- What a list has in common with the plain volume that it shows, and that it goes on showing it.
-use Rattle.std.proofs.Common.{◌≡◌, ℕ, ◌+◌, ◌-◌, ◌<◌, ◌≤◌, List, [], ◌∷◌, length, drop, refl, sym, ◌∙◌, ap, subst, arith}
+use Rattle.std.proofs.Common.{◌≡◌, ℕ, ◌+◌, ◌-◌, ◌<◌, ◌≤◌, None, List, [], ◌∷◌, length, drop, refl, sym, ◌∙◌, ap, subst, arith}
 use Rattle.std.proofs.Common.{length-drop}
 use Rattle.std.specs.Option.{option_or}
 use Rattle.std.proofs.lemmas.List.{take-append-le}
 use Rattle.lsvd_base.specs.declared.entry.Entry.{Entry}
+use Rattle.lsvd_base.specs.declared.geometry.Geometry.{Geometry}
 use Rattle.lsvd_base.specs.Image.{after}
 use Rattle.upload_window.specs.Window.{below_open}
 use Rattle.object_stream.specs.Stream.{end_at}
 use Rattle.volume_maps.specs.Places.{place_left_by, left_at}
 use Rattle.object_uploads.specs.Image.{HasImage}
-use Rattle.object_uploads.proofs.OpenLemmas.{frontier_below}
+use Rattle.object_uploads.proofs.UploadsKept.{frontier_below}
 use Rattle.batcher.specs.State.{BatchState}
 use Rattle.obj_log.proofs.StreamLemmas.{new_list_begins_stream, room_keeps_stream, adding_keeps_stream, next_seq}
 use Rattle.obj_log.proofs.ImageLemmas.{new_list_has_blank, room_keeps_image, adding_keeps_image}
@@ -21,7 +22,7 @@ use Rattle.refine_objects.specs.Laws.{AddedShowsEntry}
 
 pub shown_have_counts : ShownHaveCounts
 shown_have_counts data_at objects plain uploads valid shows =
-    let below = frontier_below objects.uploads.queue objects.uploads.window uploads in
+    let below = frontier_below objects.uploads uploads in
     let frontier : objects.uploads.queue.frontier ≡ frontier_of plain = sym below ∙ ap below_open shows.window in
     record {
       frontier = frontier;
@@ -31,13 +32,16 @@ shown_have_counts data_at objects plain uploads valid shows =
     }
 
 pub new_shows_created : NewShowsCreated
-new_shows_created data_at objects geometry limits batch window frontier end sealed settled logged =
+new_shows_created data_at objects geometry limits batch uploads sectors window frontier end sealed settled logged =
     let first = ap (λ (b : BatchState). b.first) batch in
     let entries = ap (λ (b : BatchState). b.entries) batch in
+    let geometry_is = ap (λ (b : BatchState). b.geometry) batch in
+    let sectors_are = sectors ∙ sym (ap (λ (g : Geometry). g.sectors) geometry_is) in
     let has = new_list_has_blank objects geometry.sectors sealed settled in
     record {
-      geometry = ap (λ (b : BatchState). b.geometry) batch;
-      stream = new_list_begins_stream data_at objects 1 0 first entries window frontier end sealed settled logged;
+      geometry = geometry_is;
+      stream = new_list_begins_stream data_at objects 1 0 (λ k. None) first entries sectors_are window frontier end sealed logged
+          uploads (λ k. rw settled refl);
       window = window;
       image = has.0;
       receipts = has.1;
@@ -80,9 +84,11 @@ shown_with_other_places data_at other objects plain same shows =
           last = are.last;
           end = are.end;
           settled = are.settled;
+          placed = are.placed;
           sealed = are.sealed;
           logged = λ k. are.logged k ∙ left_same data_at other end rest k (λ seq from to. same seq from (omega (arith, size)));
         };
+        sectors = shows.stream.sectors;
         first = shows.stream.first;
         entries = shows.stream.entries;
       };

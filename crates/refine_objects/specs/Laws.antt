@@ -29,7 +29,7 @@ pub record HasCounts (objects : ObjLogState) (plain : PlainState) : Type 0 where
 abbrev pub ShownHaveCounts : Type 0
 ShownHaveCounts =
     (data_at : ℕ → ℕ) (objects : ObjLogState) (plain : PlainState)
-    → IsUploads objects.uploads.queue objects.uploads.window → IsPlainVolume plain → ShowsObjects data_at objects plain
+    → IsUploads objects.uploads → IsPlainVolume plain → ShowsObjects data_at objects plain
     → HasCounts objects plain
 
 -- the list of a volume that was just created shows it
@@ -37,6 +37,7 @@ abbrev pub NewShowsCreated : Type 0
 NewShowsCreated =
     (data_at : ℕ → ℕ) (objects : ObjLogState) (geometry : Geometry) → IsTrue (is_within_limits geometry)
     → objects.batch ≡ record { geometry = geometry; first = 0; entries = []; reserved = objects.batch.reserved }
+    → IsUploads objects.uploads → objects.uploads.sectors ≡ geometry.sectors
     → objects.uploads.window ≡ record { last = 1; objects = [] } → objects.uploads.queue.frontier ≡ 1
     → objects.uploads.queue.end ≡ 0
     → objects.uploads.queue.sealed ≡ [] → objects.uploads.queue.maps.settled.rows ≡ [] → objects.uploads.queue.maps.log.rows ≡ []
@@ -67,7 +68,7 @@ RoomShowsSame =
 abbrev pub AddedShowsEntry : Type 0
 AddedShowsEntry =
     (data_at : ℕ → ℕ) (old new : ObjLogState) (plain : PlainState) (entry : Entry)
-    → IsUploads old.uploads.queue old.uploads.window → IsPlainVolume plain → ShowsObjects data_at old plain
+    → IsUploads old.uploads → IsPlainVolume plain → ShowsObjects data_at old plain
     → IsAdded entry (data_at (history_length plain)) old new
     → ShowsObjects data_at new (record plain { entries = plain.entries ++ entry ∷ [] })
 
@@ -75,7 +76,7 @@ AddedShowsEntry =
 abbrev pub SealedShowsSeal : Type 0
 SealedShowsSeal =
     (data_at : ℕ → ℕ) (old new : ObjLogState) (plain : PlainState)
-    → IsUploads old.uploads.queue old.uploads.window → IsPlainVolume plain → ShowsObjects data_at old plain
+    → IsUploads old.uploads → IsPlainVolume plain → ShowsObjects data_at old plain
     → HasSealedObject old new → 0 < length old.batch.entries → (length old.uploads.window.objects ≡ 16 → ⊥)
     → ShowsObjects data_at new (after_seal plain) × (seal_reply plain ≡ Sealed (old.uploads.window.last + 1))
 
@@ -104,7 +105,7 @@ FailedShowsFailed =
 abbrev pub DoneShowsDone : Type 0
 DoneShowsDone =
     (data_at : ℕ → ℕ) (old new : ObjLogState) (plain : PlainState) (number : ℕ) (bytes : List ℕ) (receipt : ReceiptState)
-    → IsUploads old.uploads.queue old.uploads.window → IsPlainVolume plain → ShowsObjects data_at old plain
+    → IsUploads old.uploads → IsPlainVolume plain → ShowsObjects data_at old plain
     → IsOut old.uploads number bytes → IsReceiptFor bytes receipt → IsPutDone number receipt old.uploads new.uploads
     → new.batch ≡ old.batch
     → ShowsObjects data_at new (after_done (Some number) plain)

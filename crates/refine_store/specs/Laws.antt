@@ -15,6 +15,7 @@ use Rattle.plain_disk.specs.declared.log.PlainCommit.{PlainCommit}
 use Rattle.plain_disk.specs.Cache.{PlainCache}
 use Rattle.plain_disk.specs.State.{PlainState}
 use Rattle.plain_disk.specs.Step.{plain_after}
+use Rattle.plain_disk.specs.First.{HasFirstCheckpointAlone}
 use Rattle.plain_disk.specs.Stops.{recovered_number}
 use Rattle.plain_disk.specs.Valid.{IsPlainVolume, MayLand}
 use Rattle.refine_objects.specs.Shows.{ShowsObjects}
@@ -26,11 +27,11 @@ use Rattle.refine_store.specs.Stored.{StoreStands, HasVolumeUpTo, HasNonePast}
 
 -- ---- objects
 
--- the job of a put that began has the bytes of the plain volume's object
+-- where no checkpoint is on its way, the job of a put that began has the bytes of the plain volume's object
 abbrev pub JobIsObject : Type 0
 JobIsObject =
     (data_at : ℕ → ℕ) (objects : ObjLogState) (plain : PlainState) (number : ℕ) (job : JobState)
-    → IsUploads objects.uploads.queue objects.uploads.window → IsPlainVolume plain → ShowsObjects data_at objects plain
+    → IsUploads objects.uploads → IsPlainVolume plain → HasFirstCheckpointAlone plain → ShowsObjects data_at objects plain
     → objects.uploads.queue.frontier < number → number ≤ objects.uploads.window.last
     → IsJobOf objects.uploads number job → IsObjectOf (expected_of_volume objects) plain number job.bytes
 

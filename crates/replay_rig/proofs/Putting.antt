@@ -19,7 +19,7 @@ use Rattle.object_recovery.specs.Checkpoints.{expected_of}
 use Rattle.object_uploads.specs.State.{JobState}
 use Rattle.object_uploads.specs.Order.{IsUploads}
 use Rattle.object_uploads.specs.Changes.{IsOut, IsJobOf}
-use Rattle.object_uploads.proofs.OpenLemmas.{frontier_below}
+use Rattle.object_uploads.proofs.UploadsKept.{frontier_below}
 use Rattle.obj_log.specs.State.{ObjLogState}
 use Rattle.obj_log.specs.Changes.{expected_of_volume}
 use Rattle.stopped_volume.specs.Objects.{IsCheckpointOf}
@@ -282,17 +282,17 @@ begun_none old volume reply list same not_taken of = record {
 
 -- the job has the bytes of the plain volume's object
 job_of_rig : (rig : RigState) (plain : PlainState) (n : ℕ) (job : JobState) → ShowsPlain rig plain
-    → IsUploads rig.volume.volume.objects.uploads.queue rig.volume.volume.objects.uploads.window
+    → IsUploads rig.volume.volume.objects.uploads
     → list_any (has_number n) plain.window.objects ≡ true
     → IsJobOf rig.volume.volume.objects.uploads n job → IsKnownPut plain rig.volume.volume (out_put n job.bytes)
 job_of_rig rig plain n job h uploads open_ is_job =
     let objects : ObjLogState = rig.volume.volume.objects in
     let window : objects.uploads.window ≡ plain.window = h.shows.objects.window in
     let within = open_within n 0 plain.window.objects plain.window.last h.shows.valid.window.order open_ in
-    let frontier = frontier_below objects.uploads.queue objects.uploads.window uploads in
+    let frontier = frontier_below objects.uploads uploads in
     let below = ap below_open window in
     let last = ap (λ (w : WindowState). w.last) window in
-    let object = job_is_object h.shows.data_at objects plain n job uploads h.shows.valid h.shows.objects
+    let object = job_is_object h.shows.data_at objects plain n job uploads h.shows.valid h.shows.alone h.shows.objects
     (omega (arith, within.0, frontier, below)) (omega (arith, within.1, last)) is_job in
     let expected : expected_of_volume objects ≡ expected_of_plain plain =
     ap (λ (g : Geometry). expected_of objects.uploads.uuid g) h.shows.objects.geometry
@@ -304,7 +304,7 @@ job_of_rig rig plain n job h uploads open_ is_job =
     }
 
 job_begun : (old : RigState) (volume : SteppedVolume) (job : JobState) (plain : PlainState)
-    → IsUploads old.volume.volume.objects.uploads.queue old.volume.volume.objects.uploads.window
+    → IsUploads old.volume.volume.objects.uploads
     → CountedStep told_receipt TakeJob (told.Taken job) old.volume volume → (h : ShowsPlain old plain)
     → Tells told_receipt old.volume.volume (told.Taken job) (plain_reply plain events.TakeJob)
     → ShowsVolume h.epoch volume.volume (plain_after events.TakeJob plain)
@@ -327,7 +327,7 @@ job_begun old volume job plain uploads of h tells now =
 pub begun_some : (old : RigState) (volume : SteppedVolume) (job : JobState) (number : ℕ) (list : List PutView)
     → number ≡ job.name.number
     → list ≡ with_begun job.name.number job.bytes old.puts
-    → IsUploads old.volume.volume.objects.uploads.queue old.volume.volume.objects.uploads.window
+    → IsUploads old.volume.volume.objects.uploads
     → CountedStep told_receipt TakeJob (told.Taken job) old.volume volume
     → AnswersEvent events.TakeJob (answers.Put number) old (rig_after old volume old.objects list)
 begun_some old volume job number list number_is same uploads of = record {

@@ -8,13 +8,13 @@ use Rattle.lsvd_objstore.specs.Store.{ReceiptState}
 use Rattle.upload_window.specs.declared.object.OpenObject.{OpenObject}
 use Rattle.upload_window.specs.Window.{has_number, is_started}
 use Rattle.cache_log.specs.Log.{LogState}
-use Rattle.object_uploads.specs.State.{JobState, SealedState, QueueState, UploadsState}
-use Rattle.object_uploads.specs.Queue.{HasBytesAt, with_at, with_spare, with_receipt}
+use Rattle.object_uploads.specs.State.{JobState, SealedState}
+use Rattle.object_uploads.specs.Queue.{HasBytesAt, is_checkpoint, with_at, with_spare, with_receipt}
 use Rattle.object_uploads.specs.Order.{IsOpenFirst, AreOpen, IsUploads}
 use Rattle.object_uploads.specs.Changes.{IsPutDone}
-use Rattle.object_uploads.proofs.OpenLemmas.{started_at, uploads_done}
 use Rattle.obj_log.specs.State.{ObjLogState}
 use Rattle.obj_log.specs.Changes.{IsSame}
+use Rattle.refine_objects.proofs.FrontierLemmas.{open_after_done}
 use Rattle.vol_core.specs.declared.reply.EntryRefusal.{EntryRefusal}
 use Rattle.vol_core.specs.declared.reply.EntryRefusal.TheVariants as refusals
 use Rattle.vol_core.specs.declared.reply.Reply.{Reply}
@@ -73,17 +73,17 @@ module _ (wanted : ℕ) where
       let past = later open_ in
       omega (arith, past)
 
-  past_first : (number : ℕ) (receipt : Option ReceiptState) (has_spare : Bool) (objects : List OpenObject)
+  past_first : (number : ℕ) (receipt : Option ReceiptState) (kind has_spare : Bool) (objects : List OpenObject)
       (more : List SealedState)
       → ((list : List OpenObject) → AreOpen (number + 1) more list → list_any (has_number wanted) list ≡ true
       → number + 1 ≤ wanted)
-      → IsOpenFirst number receipt has_spare objects (AreOpen (number + 1) more) → list_any (has_number wanted) objects ≡ true
-      → number ≤ wanted
-  past_first number (Some receipt) has_spare objects more later are open_ =
+      → IsOpenFirst number receipt kind has_spare objects (AreOpen (number + 1) more)
+      → list_any (has_number wanted) objects ≡ true → number ≤ wanted
+  past_first number (Some receipt) kind has_spare objects more later are open_ =
       let past = later objects are open_ in
       omega (arith, past)
-  past_first number None has_spare [] more later are open_ = absurd are
-  past_first number None has_spare (object ∷ objects) more later are open_ =
+  past_first number None kind has_spare [] more later are open_ = absurd are
+  past_first number None kind has_spare (object ∷ objects) more later are open_ =
       past_test (has_number wanted object) number object objects refl are.0 (λ is. later objects are.3 is) open_
 
   open_past : (number : ℕ) (sealed : List SealedState) (objects : List OpenObject) → AreOpen number sealed objects
@@ -92,7 +92,8 @@ module _ (wanted : ℕ) where
       let none : list_any (has_number wanted) [] ≡ true = subst (λ list. list_any (has_number wanted) list ≡ true) are open_ in
       absurd cc
   open_past number (first ∷ sealed) objects are open_ =
-      past_first number first.receipt first.has_spare objects sealed (open_past (number + 1) sealed) are open_
+      past_first number first.receipt (is_checkpoint first.rows) first.has_spare objects sealed (open_past
+      (number + 1) sealed) are open_
 
 -- ---- the objects do not change
 
@@ -158,24 +159,10 @@ module _ (old : VolumeState) (objects : ObjLogState) where
   returning_keeps_bytes job (told.NotReturned back) returned = unchanged_bytes returned.2
   returning_keeps_bytes job reply returned = absurd returned
 
-  -- the uploads are in order after a put that was out is done
-  done_in_order : (number : ℕ) (receipt : ReceiptState) → IsPutDone number receipt old.objects.uploads objects.uploads
-      → is_started number old.objects.uploads.window.objects ≡ true
-      → IsUploads old.objects.uploads.queue old.objects.uploads.window
-      → IsUploads objects.uploads.queue objects.uploads.window
-  done_in_order number receipt done started uploads =
-      let before : UploadsState = old.objects.uploads in
-      let queue : QueueState = before.queue in
-      let now : QueueState = objects.uploads.queue in
-      let found = started_at number (queue.frontier + 1) queue.sealed before.window.objects uploads.opened started in
-      subst (IsUploads now) (sym done.window)
-      (uploads_done queue now before.window number done.count receipt false uploads (omega (arith, found.0)) found.1 done.settled
-      done.waits)
-
   -- the objects up to the frontier go, and the one that is on its way still is past it
   settled_keeps_bytes : (number : ℕ) (receipt : ReceiptState) → IsPutDone number receipt old.objects.uploads objects.uploads
-      → IsUploads objects.uploads.queue objects.uploads.window → KeepsBytes old now
-  settled_keeps_bytes number receipt done uploads wanted bytes before has after =
+      → is_started number old.objects.uploads.window.objects ≡ true → IsUploads old.objects.uploads → KeepsBytes old now
+  settled_keeps_bytes number receipt done started uploads wanted bytes before has after =
       let queue = old.objects.uploads.queue in
       let settled = done.settled in
       let count = done.count in
@@ -183,7 +170,7 @@ module _ (old : VolumeState) (objects : ObjLogState) where
       let at = number - (queue.frontier + 1) in
       let past : objects.uploads.queue.frontier + 1 ≤ wanted =
       open_past wanted (objects.uploads.queue.frontier + 1) objects.uploads.queue.sealed objects.uploads.window.objects
-      uploads.opened after in
+      (open_after_done old.objects.uploads objects.uploads number receipt uploads started done) after in
       let changed = bytes_of_changed (wanted - (queue.frontier + 1)) at (with_receipt receipt) queue.sealed bytes
       (λ object. refl) has in
       let index : wanted - (queue.frontier + 1) ≡ count + (wanted - (objects.uploads.queue.frontier + 1)) =
@@ -195,11 +182,10 @@ module _ (old : VolumeState) (objects : ObjLogState) where
 
   pub finishing_keeps_bytes : {R : Type 0} (state : R → ReceiptState) (job : JobState) (receipt : R) (reply : Reply R)
       → Finishes state job receipt reply old.objects objects
-      → IsUploads old.objects.uploads.queue old.objects.uploads.window
+      → IsUploads old.objects.uploads
       → KeepsBytes old now
   finishing_keeps_bytes state job receipt (told.Done frontier) done uploads =
-      settled_keeps_bytes job.name.number (state receipt) done.1
-      (done_in_order job.name.number (state receipt) done.1 done.0.0.started uploads)
+      settled_keeps_bytes job.name.number (state receipt) done.1 done.0.0.started uploads
   finishing_keeps_bytes state job receipt (told.NotDone back given) done uploads = unchanged_bytes done.3
   finishing_keeps_bytes state job receipt reply done uploads = absurd done
 

@@ -19,6 +19,7 @@ use Rattle.commit_slot.specs.Slots.{log_of}
 use Rattle.batcher.specs.State.{BatchState}
 use Rattle.cache_log.specs.Log.{LogState, entries_in}
 use Rattle.cache_log.specs.Committed.{IsFormattedLog, first_body}
+use Rattle.object_uploads.specs.Order.{IsUploads}
 use Rattle.obj_log.specs.State.{ObjLogState}
 use Rattle.stopped_volume.specs.Device.{owner_with}
 use Rattle.plain_disk.specs.State.{PlainState, created_volume}
@@ -77,13 +78,16 @@ created_logged data_at geometry left log first rows entries = record {
 pub created_shows : (objects : ObjLogState) (log : LogState) (uuid : List ℕ) (epoch : ℕ) (geometry : Geometry) (old : DiskState)
     → IsTrue (is_within_limits geometry) → geometry.log ≡ log_of old.size → IsFormattedLog uuid epoch 0 old log
     → objects.batch ≡ record { geometry = geometry; first = 0; entries = []; reserved = 0 }
+    → IsUploads objects.uploads → objects.uploads.sectors ≡ geometry.sectors
     → objects.uploads.window ≡ record { last = 1; objects = [] } → objects.uploads.queue.frontier ≡ 1
     → objects.uploads.queue.end ≡ 0
     → objects.uploads.queue.sealed ≡ [] → objects.uploads.queue.maps.settled.rows ≡ [] → objects.uploads.queue.maps.log.rows ≡ []
     → Shows (volume_of objects log [] 1) (passing (fuse_in log.commits.disk.budget) (created_volume geometry))
-created_shows objects log uuid epoch geometry old limits sectors formatted batch window frontier end sealed settled logged =
+created_shows objects log uuid epoch geometry old limits size_is formatted batch uploads sectors window frontier end sealed
+    settled
+    logged =
     let left = fuse_in log.commits.disk.budget in
-    let size : log.room.log ≡ geometry.log = ap (λ (r : Room). r.log) formatted.room ∙ sym sectors in
+    let size : log.room.log ≡ geometry.log = ap (λ (r : Room). r.log) formatted.room ∙ sym size_is in
     let data_at : ℕ → ℕ = λ seq. 0 in
     let is : objects.batch ≡ record { geometry = geometry; first = 0; entries = []; reserved = objects.batch.reserved } =
     batch ∙ ap (λ n. record { geometry = geometry; first = 0; entries = []; reserved = n })
@@ -92,7 +96,7 @@ created_shows objects log uuid epoch geometry old limits sectors formatted batch
       valid = passing_is_plain left (created_volume geometry) (created_is geometry limits);
       data_at = data_at;
       objects = shown_with_other_cache data_at objects (created_volume geometry) _ []
-          (new_shows_created data_at objects geometry limits is window frontier end sealed settled logged);
+          (new_shows_created data_at objects geometry limits is uploads sectors window frontier end sealed settled logged);
       log = subst (λ n. ShowsLog log (empty_from n 0)) size (formatted_shows_empty uuid epoch 0 old log (search rules)
           (search rules) formatted);
       logged = created_logged data_at geometry left log formatted.first formatted.rows formatted.entries;

@@ -19,11 +19,10 @@ use Rattle.cache_log.specs.declared.error.AppendError.TheVariants as errors
 use Rattle.cache_log.specs.Log.{LogState, next_seq}
 use Rattle.cache_log.specs.Committed.{IsOnDisk}
 use Rattle.upload_window.specs.Window.{WindowState}
-use Rattle.object_uploads.specs.State.{SealedState}
-use Rattle.object_uploads.specs.Queue.{FirstWaits}
-use Rattle.object_uploads.specs.Order.{AreOpen, IsUploads}
-use Rattle.object_uploads.specs.Changes.{IsNotSealed}
-use Rattle.object_uploads.proofs.KnownLemmas.{known_in}
+use Rattle.object_uploads.specs.State.{QueueState, UploadsState}
+use Rattle.object_uploads.specs.Order.{IsUploads}
+use Rattle.object_uploads.specs.Changes.{IsNotSealed, HasSameSettled}
+use Rattle.object_uploads.proofs.UploadsKept.{whole, uploads_same}
 use Rattle.obj_log.specs.State.{ObjLogState}
 use Rattle.obj_log.specs.Changes.{IsSame, IsAdded}
 use Rattle.plain_disk.specs.declared.event.PlainEvent.{PlainEvent}
@@ -96,24 +95,16 @@ module _ (log : LogState) (reserved : ℕ) where
   reserved_pends cache pends = record { told = pends.told; pending = pends.pending; broken = pends.broken }
 
 -- the uploads are those of every volume also where they have more room
-uploads_same : (old new : ObjLogState) → IsNotSealed old.uploads new.uploads → IsUploads old.uploads.queue old.uploads.window
-    → IsUploads new.uploads.queue new.uploads.window
-uploads_same old new same is =
-    let settled = same.settled in
-    let front : new.uploads.queue.frontier ≡ old.uploads.queue.frontier = settled.frontier in
-    let many = ap length same.sealed in
-    let last = ap (λ (w : WindowState). w.last) same.window in
-    let counted = is.last in
-    record {
-      opened =
-          subst₂ (λ n (w : WindowState). AreOpen (n + 1) new.uploads.queue.sealed w.objects) (sym front) (sym same.window)
-          (subst (λ (l : List SealedState). AreOpen (old.uploads.queue.frontier + 1) l old.uploads.window.objects)
-          (sym same.sealed) is.opened);
-      last = omega (arith, front, many, last, counted);
-      waits = subst FirstWaits (sym same.sealed) is.waits;
-      known = known_in old.uploads.queue new.uploads.queue is.known front settled.receipts settled.places.objects
-          settled.places.checkpoint;
-    }
+room_in_order : (uuid : List ℕ) (sectors : ℕ) (queue : QueueState) (window : WindowState) (old : UploadsState) → uuid ≡ old.uuid
+    → sectors ≡ old.sectors → window ≡ old.window → queue.sealed ≡ old.queue.sealed → HasSameSettled old.queue queue
+    → IsUploads old → IsUploads (whole uuid sectors queue window)
+room_in_order uuid sectors queue window old same size places sealed settled is =
+    rw (same, size, places) (uploads_same old.uuid old.sectors old.window old.queue queue is settled.frontier sealed
+    settled.receipts settled.removal settled.places)
+
+roomier_uploads : (old new : UploadsState) → IsNotSealed old new → IsUploads old → IsUploads new
+roomier_uploads old new same is =
+    room_in_order new.uuid new.sectors new.queue new.window old same.uuid same.sectors same.window same.sealed same.settled is
 
 -- ---- room for the calls
 
@@ -246,7 +237,7 @@ may_lack R (entries.Zero lba sectors) = refl
 
 module _ {R : Type 0} (state : R → ReceiptState) (entry : Entry) (old : VolumeState) (plain : PlainState)
     (shows : Shows old plain)
-    (uploads : IsUploads old.objects.uploads.queue old.objects.uploads.window) (disk : IsOnDisk old.log) where
+    (uploads : IsUploads old.objects.uploads) (disk : IsOnDisk old.log) where
   counts : HasCounts old.objects plain
   counts = shown_have_counts shows.data_at old.objects plain uploads shows.valid shows.objects
 
@@ -367,7 +358,8 @@ module _ {R : Type 0} (state : R → ReceiptState) (entry : Entry) (old : Volume
   added_shows at ready objects same shown added =
       let next : ℕ = history_length plain in
       let place : ℕ → ℕ = with_place shows.data_at next (at + 1) in
-      added_shows_entry place ready objects plain entry (uploads_same old.objects ready same.uploads uploads) shows.valid
+      added_shows_entry place ready objects plain entry (roomier_uploads old.objects.uploads ready.uploads same.uploads uploads)
+      shows.valid
       (shown_with_other_places shows.data_at place ready plain
       (λ seq from below. other_place shows.data_at next (at + 1) seq (λ is. omega (arith, below, is))) shown)
       (subst (λ p. IsAdded entry p ready objects) (sym (own_place shows.data_at next (at + 1))) added)
@@ -477,7 +469,7 @@ module _ {R : Type 0} (state : R → ReceiptState) (entry : Entry) (old : Volume
 pub enter_steps : {R : Type 0} (state : R → ReceiptState) (entry : Entry) (reply : Reply R) (old : VolumeState)
     (objects : ObjLogState)
     (log : LogState)
-    → IsUploads old.objects.uploads.queue old.objects.uploads.window → IsOnDisk old.log
+    → IsUploads old.objects.uploads → IsOnDisk old.log
     → Enters entry reply old.objects objects old.log log
     → StepsAsPlain state (event_of entry) reply old (with_both objects log old)
 enter_steps state entry reply old objects log uploads disk enters plain shows =
@@ -487,7 +479,7 @@ pub enter_grow : {R : Type 0} (state : R → ReceiptState) (entry : Entry) (repl
     (objects : ObjLogState)
     (log : LogState)
     (plain : PlainState)
-    → IsUploads old.objects.uploads.queue old.objects.uploads.window → IsOnDisk old.log
+    → IsUploads old.objects.uploads → IsOnDisk old.log
     → Enters entry reply old.objects objects old.log log
     → Shows old plain
     → NumbersGrow old (with_both objects log old)
@@ -498,7 +490,7 @@ enter_grow state entry reply old objects log plain uploads disk enters shows =
 
 pub may_enter : (volume : VolumeState) (plain : PlainState) (steps : ℕ) → Shows volume plain → steps ≤ max_number
     → IsReadyForStep (record { volume = volume; steps = steps })
-    → IsUploads volume.objects.uploads.queue volume.objects.uploads.window
+    → IsUploads volume.objects.uploads
     → MayEnter volume.objects volume.log
 may_enter volume plain steps shows most ready uploads =
     let counts = shown_have_counts shows.data_at volume.objects plain uploads shows.valid shows.objects in

@@ -50,7 +50,7 @@ room_for_commit None (Some budget) room = (omega (arith, room.0), omega (arith, 
 room_for_commit (Some body) (Some budget) room = (omega (arith, room.0), omega (arith, room.1))
 
 module _ (old : VolumeState) (log : LogState) (is_made : Bool) (plain : PlainState) (shows : Shows old plain)
-    (uploads : IsUploads old.objects.uploads.queue old.objects.uploads.window)
+    (uploads : IsUploads old.objects.uploads)
     (commits : CommitsFrom old.objects.uploads.queue.end is_made old.log log) where
   commit : CommitsWithFuse is_made shows.data_at old.log log plain
   commit =
@@ -132,7 +132,7 @@ module _ (old : VolumeState) (log : LogState) (is_made : Bool) (plain : PlainSta
 pub flush_steps : {R : Type 0} (state : R → ReceiptState) (old : VolumeState) (log : LogState) (batch : BatchState)
     (is_made : Bool) (end count : ℕ)
     → (reply : Reply R)
-    → IsUploads old.objects.uploads.queue old.objects.uploads.window → IsOnDisk old.log → end ≡ old.objects.uploads.queue.end
+    → IsUploads old.objects.uploads → IsOnDisk old.log → end ≡ old.objects.uploads.queue.end
     → CommitsFrom end is_made old.log log → batch ≡ old.objects.batch → count ≡ batch.first + length batch.entries
     → reply ≡ flush_told is_made count
     → StepsAsPlain state Flush reply old (with_log log old)
@@ -143,14 +143,14 @@ flush_steps state old log batch is_made end count reply uploads on_disk end_is c
     inl (subst (λ r. IsStep state Flush r plain old (with_log log old)) (sym told) step)
 
 pub flush_grow : (old : VolumeState) (log : LogState) (is_made : Bool) (end : ℕ) (plain : PlainState) → Shows old plain
-    → IsUploads old.objects.uploads.queue old.objects.uploads.window → end ≡ old.objects.uploads.queue.end
+    → IsUploads old.objects.uploads → end ≡ old.objects.uploads.queue.end
     → CommitsFrom end is_made old.log log
     → NumbersGrow old (with_log log old)
 flush_grow old log is_made end plain shows uploads end_is commits =
     committed_grow old log is_made plain shows uploads (subst (λ n. CommitsFrom n is_made old.log log) end_is commits)
 
 pub flush_keeps_volume : (old : VolumeState) (log : LogState) (is_made : Bool) (end steps : ℕ)
-    → IsUploads old.objects.uploads.queue old.objects.uploads.window → end ≡ old.objects.uploads.queue.end
+    → IsUploads old.objects.uploads → end ≡ old.objects.uploads.queue.end
     → CommitsFrom end is_made old.log log
     → IsReadyForStep (record { volume = old; steps = steps }) → IsVolume (record { volume = old; steps = steps })
     → IsVolume (record { volume = with_log log old; steps = steps })

@@ -110,7 +110,7 @@ may_of_own volume steps now geometry lba sectors asked may is own asks answer =
     ∙ (sym asks ∙ answer)
 
 module _ (volume : VolumeState) (plain : PlainState) (shows : Shows volume plain)
-    (ordered : IsUploads volume.objects.uploads.queue volume.objects.uploads.window) (lba sectors : ℕ)
+    (ordered : IsUploads volume.objects.uploads) (lba sectors : ℕ)
     (may : may_transfer volume.objects.batch.geometry lba sectors ≡ true) where
   pub read_shown : ShowsReads shows.data_at volume.objects volume.log plain
   read_shown = record {

@@ -150,7 +150,7 @@ look_is_taken plain lba sectors may =
 -- ---- a look
 
 module _ {R : Type 0} (state : R → ReceiptState) (old : VolumeState) (lba sectors : ℕ)
-    (ordered : IsUploads old.objects.uploads.queue old.objects.uploads.window)
+    (ordered : IsUploads old.objects.uploads)
     (may : may_transfer old.objects.batch.geometry lba sectors ≡ true)
     (plain : PlainState) (shows : Shows old plain) where
   -- reads that were made, or failed, are those of the plain volume with some fuse
@@ -215,7 +215,7 @@ module _ {R : Type 0} (state : R → ReceiptState) (old : VolumeState) (lba sect
 
 pub planned_steps : {R : Type 0} (state : R → ReceiptState) (old : VolumeState) (lba sectors : ℕ) (plan : PlanState)
     (log : LogState) (pins : List ℕ)
-    → IsUploads old.objects.uploads.queue old.objects.uploads.window → may_transfer old.objects.batch.geometry lba sectors ≡ true
+    → IsUploads old.objects.uploads → may_transfer old.objects.batch.geometry lba sectors ≡ true
     → IsReadPlan lba sectors old.objects old.log plan → All (λ piece. TellsWhole piece.receipt) plan.pieces
     → ArePinned plan.objects old.pins pins
     → ReadsRange lba sectors old.objects.uploads.queue.maps true old.log log
@@ -225,7 +225,7 @@ planned_steps state old lba sectors plan log pins ordered may is whole pinned re
 
 -- a read failed
 pub fault_steps : {R : Type 0} (state : R → ReceiptState) (old : VolumeState) (lba sectors : ℕ) (log : LogState) (pins : List ℕ)
-    → IsUploads old.objects.uploads.queue old.objects.uploads.window → may_transfer old.objects.batch.geometry lba sectors ≡ true
+    → IsUploads old.objects.uploads → may_transfer old.objects.batch.geometry lba sectors ≡ true
     → HasSamePins old.pins pins → ReadsRange lba sectors old.objects.uploads.queue.maps false old.log log
     → StepsAsPlain state (Look lba sectors) told.Fault old (with_reads log pins old)
 fault_steps state old lba sectors log pins ordered may pinned reads plain shows =

@@ -96,7 +96,7 @@ module _ {R : Type 0} (old : VolumeState) (objects : ObjLogState) where
 
 pub status_steps : {R : Type 0} (state : R → ReceiptState) (volume : VolumeState) (batch : BatchState)
     (writes sealed frontier : ℕ)
-    → IsUploads volume.objects.uploads.queue volume.objects.uploads.window → batch ≡ volume.objects.batch
+    → IsUploads volume.objects.uploads → batch ≡ volume.objects.batch
     → writes ≡ batch.first + length batch.entries → sealed ≡ volume.objects.uploads.window.last
     → frontier ≡ volume.objects.uploads.queue.frontier
     → StepsAsPlain state Status (told.Told writes sealed frontier volume.checkpoint) volume volume
@@ -241,7 +241,7 @@ module _ {R : Type 0} (state : R → ReceiptState) (old : VolumeState) (objects 
   -- ---- a put is done
 
   pub done_steps : (job : JobState) (receipt : R) (reply : Reply R)
-      → IsUploads old.objects.uploads.queue old.objects.uploads.window
+      → IsUploads old.objects.uploads
       → IsReceiptFor job.bytes (state receipt) → Finishes state job receipt reply old.objects objects
       → StepsAsPlain state (JobDone job receipt) reply old changed
   done_steps job receipt (told.Done frontier) uploads own done plain shows =
@@ -288,7 +288,7 @@ module _ {R : Type 0} (state : R → ReceiptState) (old : VolumeState) (objects 
       (subst (Shows changed) (sym stays) (room_shown plain shows same))
       refl (ap (λ (p : PlainState). p.cache) stays)
 
-  pub seal_steps : (reply : Reply R) → IsUploads old.objects.uploads.queue old.objects.uploads.window
+  pub seal_steps : (reply : Reply R) → IsUploads old.objects.uploads
       → Seals reply old.objects objects
       → StepsAsPlain state Seal reply old changed
   seal_steps (told.Sealed number) uploads seals plain shows =

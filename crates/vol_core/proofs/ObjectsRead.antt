@@ -188,33 +188,33 @@ stored_row (Some receipt) None object is = absurd cc
 stored_row (Some receipt) (Some row) object is = (row, refl)
 
 -- and that has numbers from 1 up to the frontier
-known_number : (queue : QueueState) (number : ℕ) (row : ObjectRow) → AreKnown queue
+known_number : (uuid : List ℕ) (queue : QueueState) (number : ℕ) (row : ObjectRow) → AreKnown uuid queue
     → row_of number queue.maps.objects.rows ≡ Some row → (1 ≤ number) × (number ≤ queue.frontier)
-known_number queue number row known is =
+known_number uuid queue number row known is =
     let rows = queue.maps.objects.rows in
     let named = its_number number rows row is in
     let low = found_holds (λ (object : ObjectRow). 1 ≤ object.number) number rows row is known.from_one in
     let high = found_holds (λ (object : ObjectRow). object.number ≤ queue.frontier) number rows row is known.within in
     (omega (arith, named, low), omega (arith, named, high))
 
-stored_number : (queue : QueueState) (place : ObjectPlace) (object : StoredObject) → AreKnown queue
+stored_number : (uuid : List ℕ) (queue : QueueState) (place : ObjectPlace) (object : StoredObject) → AreKnown uuid queue
     → stored_at queue place ≡ Some object → (1 ≤ place.number) × (place.number ≤ queue.frontier)
-stored_number queue place object known is =
+stored_number uuid queue place object known is =
     let row = row_of place.number queue.maps.objects.rows in
     let there = stored_with (receipt_in queue.receipts place.number) row in
     elim (cases_Bool (place.level == 0)) [
       | inl own ↦
           let has = stored_row (receipt_in queue.receipts place.number) row object
           (sym (ap (λ b. cond b there None) own) ∙ is) in
-          known_number queue place.number has.0 known has.1
+          known_number uuid queue place.number has.0 known has.1
       | inr other ↦ (let none = sym (ap (λ b. cond b there None) other) ∙ is in let bad : ⊥ = cc in absurd bad)
     ]
 
-given_number : (queue : QueueState) (place : ObjectPlace) (sector : List ℕ) (object : Option StoredObject) → AreKnown queue
-    → stored_at queue place ≡ object → GivesSector object place.sector sector
+given_number : (uuid : List ℕ) (queue : QueueState) (place : ObjectPlace) (sector : List ℕ) (object : Option StoredObject)
+    → AreKnown uuid queue → stored_at queue place ≡ object → GivesSector object place.sector sector
     → (1 ≤ place.number) × (place.number ≤ queue.frontier)
-given_number queue place sector None known is gives = absurd gives
-given_number queue place sector (Some object) known is gives = stored_number queue place object known is
+given_number uuid queue place sector None known is gives = absurd gives
+given_number uuid queue place sector (Some object) known is gives = stored_number uuid queue place object known is
 
 -- ---- the objects that are read
 
@@ -231,7 +231,7 @@ module _ (data_at : ℕ → ℕ) (objects : ObjLogState) (log : LogState) (plain
       let there = slice_get-get_or (image_now plain) k [] (omega (arith, within, image_has_sectors plain shows.valid)) in
       let held = subst (λ p. IsHeldAt log queue p sector) is (places_hold_sectors data_at objects log plain k sector
       shows there) in
-      let number = given_number queue place sector (stored_at queue place) shows.ordered.known refl held.1 in
+      let number = given_number objects.uploads.uuid queue place sector (stored_at queue place) shows.ordered.known refl held.1 in
       let reached = (counts data_at objects log plain shows).frontier in
       (number.0, (let most = number.1 in omega (arith, most, reached)))
 

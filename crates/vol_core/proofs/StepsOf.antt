@@ -96,7 +96,7 @@ module _ {R : Type 0} (state : R → ReceiptState) (old : VolumeState) (objects 
         bytes = bytes;
       }
 
-  pub step_of_seal : (reply : Reply R) → IsUploads old.objects.uploads.queue old.objects.uploads.window
+  pub step_of_seal : (reply : Reply R) → IsUploads old.objects.uploads
       → Seals reply old.objects objects
       → StepOf state Seal reply old (with_objects objects old)
   step_of_seal reply uploads seals =
@@ -111,7 +111,7 @@ module _ {R : Type 0} (state : R → ReceiptState) (old : VolumeState) (objects 
       (taken_grow old objects reply taken) (taking_keeps_bytes old objects reply taken)
 
   pub step_of_done : (job : JobState) (receipt : R) (reply : Reply R)
-      → IsUploads old.objects.uploads.queue old.objects.uploads.window → IsReceiptFor job.bytes (state receipt)
+      → IsUploads old.objects.uploads → IsReceiptFor job.bytes (state receipt)
       → Finishes state job receipt reply old.objects objects
       → StepOf state (JobDone job receipt) reply old (with_objects objects old)
   step_of_done job receipt reply uploads own done =

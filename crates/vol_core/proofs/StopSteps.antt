@@ -133,7 +133,7 @@ may_leave event plain may found (inr is) = inr (may, is)
 
 pub flushing_keeps : {R : Type 0} (event : Event R) → may_commit event ≡ true
     → (old : VolumeState) (log : LogState) (is_made : Bool) (end : ℕ)
-    → IsUploads old.objects.uploads.queue old.objects.uploads.window
+    → IsUploads old.objects.uploads
     → IsOnDisk old.log → end ≡ old.objects.uploads.queue.end → CommitsFrom end is_made old.log log
     → StepKeeps event old (with_log log old)
 flushing_keeps event may old log is_made end uploads on_disk end_is commits owner own = record {
@@ -201,7 +201,7 @@ entry_may_commit R (entries.Write lba body) = refl
 entry_may_commit R (entries.Zero lba sectors) = refl
 
 module _ {R : Type 0} (entry : Entry) (old : VolumeState)
-    (uploads : IsUploads old.objects.uploads.queue old.objects.uploads.window)
+    (uploads : IsUploads old.objects.uploads)
     (on_disk : IsOnDisk old.log) where
   abbrev event : Event R
   event = event_of entry

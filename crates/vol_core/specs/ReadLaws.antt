@@ -22,7 +22,7 @@ use Rattle.vol_core.specs.Places.{IsHeldAt, data_rows_in_log}
 
 -- what a volume has of a plain volume that it shows, for its reads
 pub record ShowsReads (data_at : ℕ → ℕ) (objects : ObjLogState) (log : LogState) (plain : PlainState) : Type 0 where
-  pub ordered : IsUploads objects.uploads.queue objects.uploads.window
+  pub ordered : IsUploads objects.uploads
   pub valid : IsPlainVolume plain
   pub objects_are : ShowsObjects data_at objects plain
   pub log_is : ShowsLog log plain.cache.log

@@ -56,4 +56,5 @@ pub record IsVolume (stepped : SteppedVolume) : Type 0 where
 -- and of the log and the uploads of each
 pub record IsSound (volume : VolumeState) : Type 0 where
   pub on_disk : IsOnDisk volume.log
-  pub uploads : IsUploads volume.objects.uploads.queue volume.objects.uploads.window
+  pub uploads : IsUploads volume.objects.uploads
+  pub sectors : volume.objects.uploads.sectors ≡ volume.objects.batch.geometry.sectors

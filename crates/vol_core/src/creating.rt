@@ -37,5 +37,6 @@ pub fn create<D: Disk, R: Receipt>(
 {
     let log = CacheLog::format(alloc, disk, uuid.into_bytes(), 0, 0)?;
     let objects = ObjLog::new(alloc, uuid, geometry, FIRST_OBJECT, 0);
+    objects.uploads().frontier();
     Ok(Volume::new(alloc, objects, log, FIRST_OBJECT))
 }

@@ -1,4 +1,4 @@
-ghost use Rattle.std.specs.Prelude.{◌+◌, ◌-◌, ◌^◌, ◌<◌};
+ghost use Rattle.std.specs.Prelude.{◌≡◌, ◌+◌, ◌-◌, ◌^◌, ◌<◌};
 ghost use Rattle.vol_core.specs.Calls.{Seals, TakesLowestReady, Finishes, Returns};
 
 use crate::reply::Reply;
@@ -7,9 +7,11 @@ use obj_log::{ObjLog, SealError};
 use object_uploads::Job;
 use std::alloc::Global;
 
-/// Seals the next data object. The numbers go on below 2^64 - 1 (a condition).
+/// Seals the next data object. The objects are of a volume as large as the batch's, and the numbers go on
+/// below 2^64 - 1 (conditions).
 pub(crate) fn seal<R: Receipt>(alloc: Global, objects: &mut ObjLog<R>) -> Reply<R>
-    requires { objects.old.uploads.window.last + 1 < 2 ^ 64 - 1 }
+    requires sectors { objects.old.uploads.sectors ≡ objects.old.batch.geometry.sectors }
+    requires numbers { objects.old.uploads.window.last + 1 < 2 ^ 64 - 1 }
     ensures { Seals result objects.old objects.new }
 {
     match objects.seal_data(alloc) {
@@ -24,7 +26,7 @@ pub(crate) fn seal<R: Receipt>(alloc: Global, objects: &mut ObjLog<R>) -> Reply<
 pub(crate) fn take_job<R: Receipt>(objects: &mut ObjLog<R>) -> Reply<R>
     ensures { TakesLowestReady result objects.old objects.new }
 {
-    match objects.take_job() {
+    match objects.uploads_mut().take_job() {
         Some(job) => Reply::Taken(job),
         None => Reply::Nothing,
     }
@@ -34,7 +36,7 @@ pub(crate) fn take_job<R: Receipt>(objects: &mut ObjLog<R>) -> Reply<R>
 pub(crate) fn job_done<R: Receipt>(objects: &mut ObjLog<R>, job: Job, receipt: R) -> Reply<R>
     ensures { Finishes R.state job receipt result objects.old objects.new }
 {
-    match objects.job_done(&job, receipt) {
+    match objects.uploads_mut().job_done(&job, receipt) {
         Ok(frontier) => Reply::Done(frontier),
         Err(receipt) => Reply::NotDone { job, receipt },
     }
@@ -44,7 +46,7 @@ pub(crate) fn job_done<R: Receipt>(objects: &mut ObjLog<R>, job: Job, receipt: R
 pub(crate) fn job_failed<R: Receipt>(objects: &mut ObjLog<R>, job: Job) -> Reply<R>
     ensures { Returns job result objects.old objects.new }
 {
-    match objects.job_failed(job) {
+    match objects.uploads_mut().job_failed(job) {
         Ok(()) => Reply::Returned,
         Err(job) => Reply::NotReturned(job),
     }

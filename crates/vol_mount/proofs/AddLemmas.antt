@@ -33,12 +33,14 @@ same_self log = record {
   entries = refl;
   uploads = record {
     uuid = refl;
+    sectors = refl;
     sealed = refl;
     window = refl;
     settled = record {
       frontier = refl;
       end = refl;
       receipts = refl;
+      removal = refl;
       places = record { settled = refl; log = refl; objects = refl; checkpoint = refl };
     };
   };
@@ -51,12 +53,14 @@ same_then old middle new first second = record {
   entries = second.entries ∙ first.entries;
   uploads = record {
     uuid = second.uploads.uuid ∙ first.uploads.uuid;
+    sectors = second.uploads.sectors ∙ first.uploads.sectors;
     sealed = second.uploads.sealed ∙ first.uploads.sealed;
     window = second.uploads.window ∙ first.uploads.window;
     settled = record {
       frontier = second.uploads.settled.frontier ∙ first.uploads.settled.frontier;
       end = second.uploads.settled.end ∙ first.uploads.settled.end;
       receipts = second.uploads.settled.receipts ∙ first.uploads.settled.receipts;
+      removal = second.uploads.settled.removal ∙ first.uploads.settled.removal;
       places = record {
         settled = second.uploads.settled.places.settled ∙ first.uploads.settled.places.settled;
         log = second.uploads.settled.places.log ∙ first.uploads.settled.places.log;
@@ -69,7 +73,7 @@ same_then old middle new first second = record {
 
 -- one entry more
 pub adds_one_more : (data_at : ℕ → ℕ) (entries : List Entry) (entry : Entry) (old middle ready new : ObjLogState)
-    → AddsEntries data_at entries old middle → IsSame middle ready → IsUploads ready.uploads.queue ready.uploads.window
+    → AddsEntries data_at entries old middle → IsSame middle ready → IsUploads ready.uploads
     → IsAdded entry (data_at (ready.batch.first + length ready.batch.entries)) ready new
     → AddsEntries data_at (entries ++ entry ∷ []) old new
 adds_one_more data_at [] entry old middle ready new adds same uploads added =
@@ -290,7 +294,7 @@ module _ (log : LogState) (all : List Entry) (old : ObjLogState) (limits : IsTru
     -- and then it is
     pub one_added : (position index later : ℕ) (row : Row) (new : ObjLogState) (left : List Entry) → position ≡ position_of row
         → index ≡ count
-        → row ≡ slice_index_or log.rows index row → later ≡ count + 1 → IsUploads ready.uploads.queue ready.uploads.window
+        → row ≡ slice_index_or log.rows index row → later ≡ count + 1 → IsUploads ready.uploads
         → IsAdded entry (position + 1) ready new → rest ≡ left → IsAddedUpTo log all left later old new
     one_added position index later row new left is_position is_count is_row is_later uploads added same_rest =
         let counted = is.counted in

@@ -296,7 +296,7 @@ module _ (uuid : List ℕ) (geometry : Geometry) (epoch : ℕ) (list : ObjLogSta
   pub kept_shows_some : (plain : PlainState) × Shows (volume_of objects new [] checkpoint) plain
   kept_shows_some =
       let some = list_shows_some uuid geometry checkpoint list.uploads.window.last end_is list limits is.numbered is.from is.list
-      is.places in
+      is.order is.places in
       (passing (fuse_in new.commits.disk.budget) (going_on done.entries found_log some.0), kept_shows some.0 some.1 some.2)
 
   pub last_is : objects.uploads.window.last ≡ list.uploads.window.last

@@ -92,7 +92,7 @@ module _ (uuid : List ℕ) (geometry : Geometry) (epoch : ℕ) (list : ObjLogSta
   pub lost_shows_some : (plain : PlainState) × Shows (volume_of list log [] checkpoint) plain
   lost_shows_some =
       let some = list_shows_some uuid geometry checkpoint list.uploads.window.last end list limits is.numbered is.from is.list
-      is.places in
+      is.order is.places in
       (passing (fuse_in log.commits.disk.budget) some.0, lost_shows some.0 some.1 some.2)
 
   pub lost_is_small : (before : ℕ) → AreLow before list → IsSmall (volume_of list log [] checkpoint) 0

@@ -19,6 +19,7 @@ use Rattle.cache_log.specs.Log.{LogState, AreRowsOf, IsTrimmed}
 use Rattle.cache_log.specs.Opening.{AreRecordsInRange, IsOpenedLog, entry_count}
 use Rattle.cache_log.specs.Committed.{body_of, HasSameList, IsReleased, LeavesEntriesSince}
 use Rattle.stopped_volume.specs.Device.{CacheOwner, owner_of}
+use Rattle.object_uploads.specs.Order.{IsUploads}
 use Rattle.obj_log.specs.State.{ObjLogState}
 use Rattle.object_recovery.specs.Checkpoints.{expected_of, IsNewestWithEnd}
 use Rattle.object_recovery.specs.Places.{HasPlacesInside}
@@ -51,9 +52,10 @@ passes_device (Err error) = not (is_device_fault error)
 
 -- ---- the list
 
--- the list of a volume was recovered, from a checkpoint with this number on
+-- the list of a volume was recovered, from a checkpoint with this number on; its objects are in order
 pub record IsRecovered (uuid : List ℕ) (geometry : Geometry) (log : ObjLogState) (checkpoint : ℕ) : Type 0 where
   pub list : IsListUpTo uuid geometry log.uploads.window.last log.uploads.queue.end log
+  pub order : IsUploads log.uploads
   pub places : HasPlacesInside geometry.sectors log.uploads.queue
   pub numbered : 0 < checkpoint
   pub from : checkpoint ≤ log.uploads.window.last

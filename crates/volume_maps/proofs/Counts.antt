@@ -16,17 +16,17 @@ use Rattle.volume_maps.specs.Kept.{passing, is_live, live_between}
 
 module _ (test : ℕ → Bool) where
   -- no sector
-  passing_none : (from : ℕ) → passing test from zero ≡ 0
+  pub passing_none : (from : ℕ) → passing test from zero ≡ 0
   unfolding passing
   passing_none from = refl
 
   -- and one more
-  passing_more : (from n : ℕ) → passing test from (suc n) ≡ passing test from n + cond (test (from + n)) 1 0
+  pub passing_more : (from n : ℕ) → passing test from (suc n) ≡ passing test from n + cond (test (from + n)) 1 0
   unfolding passing
   passing_more from n = refl
 
   -- a range in two parts, by their lengths
-  in_parts : (from a b : ℕ) → passing test from (a + b) ≡ passing test from a + passing test (from + a) b
+  pub in_parts : (from a b : ℕ) → passing test from (a + b) ≡ passing test from a + passing test (from + a) b
   in_parts from a zero =
       let same : a + zero ≡ a = omega arith in
       omega (arith, ap (passing test from) same, passing_none (from + a))
@@ -75,7 +75,7 @@ module _ (test : ℕ → Bool) where
   by_one false n = refl
 
   -- sectors that all pass, or of which none does
-  passing_all : (b : Bool) (from n : ℕ) → ((k : ℕ) → from ≤ k → k < from + n → test k ≡ b)
+  pub passing_all : (b : Bool) (from n : ℕ) → ((k : ℕ) → from ≤ k → k < from + n → test k ≡ b)
       → passing test from n ≡ cond b n 0
   passing_all true from zero all = passing_none from
   passing_all false from zero all = passing_none from
@@ -86,7 +86,7 @@ module _ (test : ℕ → Bool) where
       ∙ by_one b n
 
 -- tests that say the same there
-passing_same : (test other : ℕ → Bool) (from n : ℕ) → ((k : ℕ) → from ≤ k → k < from + n → test k ≡ other k)
+pub passing_same : (test other : ℕ → Bool) (from n : ℕ) → ((k : ℕ) → from ≤ k → k < from + n → test k ≡ other k)
     → passing test from n ≡ passing other from n
 passing_same test other from zero same = passing_none test from ∙ sym (passing_none other from)
 passing_same test other from (suc n) same =

@@ -3,5 +3,6 @@ pub mod FitLemmas
 pub mod KeptLemmas
 pub mod LookLemmas
 pub mod LossLemmas
+pub mod RankLemmas
 pub mod SettleLemmas
 pub mod TableLemmas

@@ -38,23 +38,23 @@ logged_push end (first ∷ rows) row before k = logged_push end rows row (logged
 -- ---- owners
 
 -- a row that may stand after another begins where that ends, or past it
-follows : (volume payload place : ℕ) (before row : DataRow) → IsTrue (data_may_stand volume payload (Some before) place row)
+pub follows : (volume payload place : ℕ) (before row : DataRow) → IsTrue (data_may_stand volume payload (Some before) place row)
     → before.lba + before.sectors ≤ row.lba
 follows volume payload place before row stands = grind (arith, nat_tests)
 
-first_stands : (volume payload place : ℕ) (before : Option DataRow) (row : DataRow) (rows : List DataRow)
+pub first_stands : (volume payload place : ℕ) (before : Option DataRow) (row : DataRow) (rows : List DataRow)
     → IsTrue (data_rows_may_stand volume payload before place (row ∷ rows))
     → IsTrue (data_may_stand volume payload before place row)
 first_stands volume payload place before row rows stand = grind (arith, nat_tests)
 
-rest_stand : (volume payload place : ℕ) (before : Option DataRow) (row : DataRow) (rows : List DataRow)
+pub rest_stand : (volume payload place : ℕ) (before : Option DataRow) (row : DataRow) (rows : List DataRow)
     → IsTrue (data_rows_may_stand volume payload before place (row ∷ rows))
     → IsTrue (data_rows_may_stand volume payload (Some row) (place + data_payload row) rows)
 rest_stand volume payload place before row rows stand = grind (arith, nat_tests)
 
 module _ (volume payload number k : ℕ) (bytes : List ℕ) where
   -- rows after one that ends past a sector do not cover it
-  settled_past : (place : ℕ) (row : DataRow) (rows : List DataRow) (before : Option ObjectPlace)
+  pub settled_past : (place : ℕ) (row : DataRow) (rows : List DataRow) (before : Option ObjectPlace)
       → IsTrue (data_rows_may_stand volume payload (Some row) place rows) → k < row.lba + row.sectors
       → settled_by number rows before k ≡ before
   settled_past place row [] before stand low = refl

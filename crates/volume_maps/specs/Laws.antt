@@ -6,7 +6,7 @@ use Rattle.object_format.specs.Rows.{data_rows_may_stand}
 use Rattle.object_stream.specs.declared.change.Change.{Change}
 use Rattle.object_stream.specs.declared.change.Change.TheVariants.{Put, Clear}
 use Rattle.object_stream.specs.declared.owner.Owner.{Owner}
-use Rattle.object_stream.specs.Changes.{sector_of, change_at, change_in}
+use Rattle.object_stream.specs.Changes.{sector_of, change_at, change_in, is_put, place_in_payload}
 use Rattle.object_stream.specs.Stream.{owner_by_change}
 use Rattle.volume_maps.specs.declared.place.ObjectPlace.{ObjectPlace}
 use Rattle.volume_maps.specs.Places.{left_at}
@@ -37,6 +37,16 @@ SettlesPlaces =
     (volume sectors number k : ℕ) (rows : List DataRow) (payload : List ℕ) (before : Option ObjectPlace)
     → IsTrue (data_rows_may_stand volume sectors None 0 rows)
     → IsPlacedBy number payload (change_in rows payload k) before (settled_by number rows before k)
+
+-- Where the rows of a data object do to each sector what some entries do, one that these put is after the settling where the
+-- entries have it in the payload.
+abbrev pub PlacesAreRanks : Type 0
+PlacesAreRanks =
+    (volume sectors number k : ℕ) (entries : List Entry) (rows : List DataRow) (payload : List ℕ) (before : Option ObjectPlace)
+    → IsTrue (data_rows_may_stand volume sectors None 0 rows)
+    → ((i : ℕ) → change_in rows payload i ≡ change_at entries i)
+    → IsTrue (is_put (change_at entries k))
+    → settled_by number rows before k ≡ Some (record { level = 0; number = number; sector = place_in_payload entries k })
 
 -- Where rows do to each sector what some entries do, the log's map keeps after them just what the entries after these left.
 abbrev pub LogKeepsLaterEntries : Type 0

@@ -1,10 +1,17 @@
-ghost use Rattle.volume_maps.specs.Laws.{SettlesAsReplay, SettlesPlaces, LogKeepsLaterEntries};
+ghost use Rattle.volume_maps.specs.Laws.{SettlesAsReplay, SettlesPlaces, PlacesAreRanks};
+ghost use Rattle.volume_maps.specs.Laws.{LogKeepsLaterEntries};
 
 /// A law: the owner of each sector after the rows of a data object are settled is that after the object's
 /// replay; and at its place the object's bytes have the sector that was put.
 pub fn settling_is_a_replay()
     ensures owners { SettlesAsReplay }
     ensures places { SettlesPlaces }
+{}
+
+/// A law: where the rows of a data object do to each sector what some entries do, a sector that these put is
+/// after the settling where they have it in the payload: after those below it that they put.
+pub fn settled_places_are_ranks()
+    ensures { PlacesAreRanks }
 {}
 
 /// A law: where rows do to a sector what some entries do, the log's map keeps after them just what later

@@ -9,6 +9,7 @@ ghost use Rattle.volume_maps.specs.Places.{row_left_by};
 ghost use Rattle.volume_maps.specs.Maps.{settled_at, logged_at, volume_place_at, settled_by_row, settled_by};
 ghost use Rattle.volume_maps.specs.Maps.{logged_by_row, logged_by, RowFits, RowsFit};
 ghost use Rattle.volume_maps.specs.Live.{IsCounted, MayGain, HasSameObjects, live_sectors};
+ghost use Rattle.volume_maps.specs.Kept.{IsKept};
 
 use crate::look::look;
 use crate::place::{LogPlace, ObjectPlace, VolumePlace};
@@ -110,9 +111,10 @@ impl VolumeMaps {
     pub fn add_object(&mut self, number: u64, payload: u64, front: u64)
         requires room { 1 ≤ self.old.objects.spare }
         requires newest { IsNewest self.old.objects number }
-        ensures { self.new ≡ record self.old {
+        ensures added { self.new ≡ record self.old {
           objects = added (new_row number payload front) self.old.objects;
         } }
+        ensures counted { IsCounted self.new.settled.rows self.new.objects }
     {
         self.objects.add(number, payload, front);
     }
@@ -131,13 +133,23 @@ impl VolumeMaps {
             (settled_at self.old k) k }
         ensures log { (k : ℕ) → logged_at self.new k ≡ logged_by end rows.now (logged_at self.old k) k }
         ensures objects { HasSameObjects self.old.objects self.new.objects }
+        ensures counted { IsCounted self.new.settled.rows self.new.objects }
+        ensures shortest { IsShortest object_on self.new.settled.rows }
         ensures object_spare { self.new.objects.spare ≡ self.old.objects.spare }
         ensures settled_spare { self.old.settled.spare ≤ self.new.settled.spare + length rows.now }
         ensures log_spare { self.old.log.spare ≤ self.new.log.spare + length rows.now }
     {
+        self.is_kept();
         for row in rows {
             self.settle_row(number, end, row);
         }
+    }
+
+    // What is so of all maps, as a fact for proofs. Nothing is done.
+    fn is_kept(&self)
+        ensures { IsKept self.now.settled.rows self.now.objects }
+    {
+        let _settled = &self.settled;
     }
 
     // Settles one row of a data object.
@@ -150,6 +162,8 @@ impl VolumeMaps {
             (settled_at self.old k) k }
         ensures log { (k : ℕ) → logged_at self.new k ≡ logged_by_row end row.now (logged_at self.old k) k }
         ensures objects { HasSameObjects self.old.objects self.new.objects }
+        ensures counted { IsCounted self.new.settled.rows self.new.objects }
+        ensures shortest { IsShortest object_on self.new.settled.rows }
         ensures object_spare { self.new.objects.spare ≡ self.old.objects.spare }
         ensures settled_spare { self.old.settled.spare ≤ self.new.settled.spare + 1 }
         ensures log_spare { self.old.log.spare ≤ self.new.log.spare + 1 }
@@ -172,6 +186,7 @@ impl VolumeMaps {
             (settled_at self.old) k }
         ensures log { self.new.log ≡ self.old.log }
         ensures objects { HasSameObjects self.old.objects self.new.objects }
+        ensures counted { IsCounted self.new.settled.rows self.new.objects }
         ensures object_spare { self.new.objects.spare ≡ self.old.objects.spare }
         ensures spare { self.old.settled.spare ≤ self.new.settled.spare + 1 }
     {
@@ -183,7 +198,8 @@ impl VolumeMaps {
     pub fn acknowledge_checkpoint(&mut self, number: u64)
         requires room { 1 ≤ self.old.objects.spare }
         requires newest { IsNewest self.old.objects number }
-        ensures { self.new ≡ record self.old { objects = acknowledged number self.old.objects } }
+        ensures passed { self.new ≡ record self.old { objects = acknowledged number self.old.objects } }
+        ensures counted { IsCounted self.new.settled.rows self.new.objects }
     {
         self.objects.acknowledge_checkpoint(number);
     }
@@ -201,7 +217,10 @@ impl VolumeMaps {
     /// than 2^64 - 1 pins (a condition). It takes no memory.
     pub fn pin(&mut self, number: u64)
         requires { IfSome (row_of number self.old.objects.rows) (λ row. row.pins + 1 < 2 ^ 64) }
-        ensures { self.new ≡ record self.old { objects = with_changed pinned number self.old.objects } }
+        ensures pinned { self.new ≡ record self.old {
+          objects = with_changed pinned number self.old.objects;
+        } }
+        ensures counted { IsCounted self.new.settled.rows self.new.objects }
     {
         self.objects.pin(number);
     }
@@ -210,7 +229,10 @@ impl VolumeMaps {
     /// (a condition). It takes no memory.
     pub fn unpin(&mut self, number: u64)
         requires { IfSome (row_of number self.old.objects.rows) (λ row. 0 < row.pins) }
-        ensures { self.new ≡ record self.old { objects = with_changed unpinned number self.old.objects } }
+        ensures unpinned { self.new ≡ record self.old {
+          objects = with_changed unpinned number self.old.objects;
+        } }
+        ensures counted { IsCounted self.new.settled.rows self.new.objects }
     {
         self.objects.unpin(number);
     }
@@ -229,6 +251,7 @@ impl VolumeMaps {
         requires { live_sectors number self.old.settled.rows ≡ 0 }
         ensures rows { self.new.objects.rows ≡ without number self.old.objects.rows }
         ensures checkpoint { self.new.objects.checkpoint ≡ self.old.objects.checkpoint }
+        ensures counted { IsCounted self.new.settled.rows self.new.objects }
         ensures spare { self.new.objects.spare + length self.new.objects.rows
             ≡ self.old.objects.spare + length self.old.objects.rows }
         ensures settled { self.new.settled ≡ self.old.settled }

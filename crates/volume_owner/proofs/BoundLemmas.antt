@@ -10,7 +10,7 @@ use Rattle.object_format.specs.declared.expected.Expected.{Expected}
 use Rattle.object_stream.specs.declared.object.StreamObject.{StreamObject}
 use Rattle.object_stream.specs.declared.object.Content.{Content}
 use Rattle.object_stream.specs.declared.object.Content.TheVariants.{Data}
-use Rattle.object_stream.specs.Stream.{Stream, end_after, end_at, last_number, GoesTo, EndsFollow}
+use Rattle.object_stream.specs.Stream.{Stream, Owners, owners, after_object, end_after, end_at, last_number, GoesTo, EndsFollow}
 use Rattle.object_stream.specs.Laws.{from_object}
 use Rattle.object_stream.proofs.StreamLemmas.{end_in_parts}
 use Rattle.upload_window.specs.declared.object.OpenObject.{OpenObject}
@@ -18,7 +18,10 @@ use Rattle.upload_window.specs.Window.{WindowState, below_open}
 use Rattle.object_uploads.specs.Order.{IsOpenFirst, AreOpen, IsUploads}
 use Rattle.object_uploads.specs.State.{SealedState, QueueState}
 use Rattle.object_uploads.specs.Stream.{AreSealedOf}
-use Rattle.object_uploads.proofs.OpenLemmas.{frontier_below}
+use Rattle.object_uploads.proofs.UploadsKept.{frontier_below}
+use Rattle.object_uploads.specs.Queue.{is_checkpoint}
+use Rattle.object_stream.specs.Replay.{expected_at}
+use Rattle.refine_store.proofs.JobLemmas.{HoldData, HasNoCheckpoint, all_data, data_content}
 use Rattle.obj_log.specs.Changes.{expected_of_volume}
 use Rattle.cache_log.specs.declared.row.Row.{Row}
 use Rattle.cache_log.specs.declared.row.Row.TheVariants as rows_of
@@ -68,19 +71,21 @@ few_logged volume plain shows =
 
 -- ---- objects
 
-open_by : (receipt : Option ReceiptState) (number : ℕ) (has_spare : Bool) (objects : List OpenObject) (Rest : List OpenObject
-    → Type 0) (most : ℕ)
-    → ((more : List OpenObject) → Rest more → length more ≤ most) → IsOpenFirst number receipt has_spare objects Rest
-    → length objects ≤ suc most
-open_by (Some receipt) number has_spare objects Rest most rest are = (let few = rest objects are in omega (arith, few))
-open_by None number has_spare [] Rest most rest are = absurd are
-open_by None number has_spare (object ∷ objects) Rest most rest are = (let few = rest objects are.3 in omega (arith, few))
+open_by : (receipt : Option ReceiptState) (number : ℕ) (is_checkpoint has_spare : Bool) (objects : List OpenObject)
+    (Rest : List OpenObject → Type 0) (most : ℕ)
+    → ((more : List OpenObject) → Rest more → length more ≤ most)
+    → IsOpenFirst number receipt is_checkpoint has_spare objects Rest → length objects ≤ suc most
+open_by (Some receipt) number is_checkpoint has_spare objects Rest most rest are =
+    (let few = rest objects are in omega (arith, few))
+open_by None number is_checkpoint has_spare [] Rest most rest are = absurd are
+open_by None number is_checkpoint has_spare (object ∷ objects) Rest most rest are =
+    (let few = rest objects are.3 in omega (arith, few))
 
 few_open : (number : ℕ) (sealed : List SealedState) (objects : List OpenObject) → AreOpen number sealed objects
     → length objects ≤ length sealed
 few_open number [] objects are = (let empty = ap (λ (o : List OpenObject). length o) are in omega (arith, empty))
 few_open number (one ∷ sealed) objects are =
-    open_by one.receipt number one.has_spare objects (AreOpen (number + 1) sealed) (length sealed)
+    open_by one.receipt number (is_checkpoint one.rows) one.has_spare objects (AreOpen (number + 1) sealed) (length sealed)
     (few_open (number + 1) sealed) are
 
 follow_rest : (end n : ℕ) (objects : List StreamObject) → EndsFollow end objects
@@ -92,20 +97,26 @@ follow_rest end (suc n) (object ∷ objects) follow = follow_rest object.end n o
 goes_by : (content : Content) (before end : ℕ) → content ≡ Data → GoesTo content before end → before < end
 goes_by content before end is goes = subst (λ c. GoesTo c before end) is goes
 
-few_sealed : (volume : Expected) (number end : ℕ) (entries : List Entry) (objects : List StreamObject) (sealed : List SealedState)
-    → AreSealedOf volume number end entries objects sealed → EndsFollow end objects → end + length sealed ≤ end_after end objects
-few_sealed volume number end entries [] [] are follow = omega arith
-few_sealed volume number end entries [] (one ∷ sealed) are follow = absurd are
-few_sealed volume number end entries (object ∷ objects) [] are follow = absurd are
-few_sealed volume number end entries (object ∷ objects) (one ∷ sealed) are follow =
-    let goes = goes_by object.content end object.end are.0.content follow.0 in
-    let rest = few_sealed volume (number + 1) object.end (drop (object.end - end) entries) objects sealed are.1 follow.1 in
+few_sealed : (stream : Stream) (volume : Expected) (number end : ℕ) (entries : List Entry) (before : Owners)
+    (objects : List StreamObject) (sealed : List SealedState)
+    → AreSealedOf stream volume number end entries before objects sealed → HoldData sealed → EndsFollow end objects
+    → end + length sealed ≤ end_after end objects
+few_sealed stream volume number end entries before [] [] are data_alone follow = omega arith
+few_sealed stream volume number end entries before [] (one ∷ sealed) are data_alone follow = absurd are
+few_sealed stream volume number end entries before (object ∷ objects) [] are data_alone follow = absurd are
+few_sealed stream volume number end entries before (object ∷ objects) (one ∷ sealed) are data_alone follow =
+    let own = take (object.end - end) entries in
+    let is = data_content stream (expected_at volume (number + 1) end) object.content own before object.end one.bytes one.rows
+    data_alone.0 are.0.holds in
+    let goes = goes_by object.content end object.end is.0 follow.0 in
+    let rest = few_sealed stream volume (number + 1) object.end (drop (object.end - end) entries)
+    (after_object (number + 1) object.content own before) objects sealed are.1 data_alone.1 follow.1 in
     omega (arith, goes, rest)
 
 -- ---- both
 
 pub work_bound : (volume : VolumeState) (plain : PlainState) → Shows volume plain
-    → IsUploads volume.objects.uploads.queue volume.objects.uploads.window
+    → IsUploads volume.objects.uploads
     → work_of volume ≤ 3 * 2 ^ 31
 work_bound volume plain shows uploads =
     let queue : QueueState = volume.objects.uploads.queue in
@@ -114,8 +125,12 @@ work_bound volume plain shows uploads =
     let k : ℕ = queue.frontier - plain.number in
     let follow = subst (λ e. EndsFollow e (drop k plain.objects)) (sym objects.end)
     (follow_rest plain.end k plain.objects shows.valid.stream.ends) in
-    let sealed = few_sealed (expected_of_volume volume.objects) queue.frontier queue.end
-    (from_object queue.frontier stream).entries (drop k plain.objects) queue.sealed objects.sealed follow in
+    let none = subst (λ (w : WindowState). HasNoCheckpoint w.objects) (sym shows.objects.window) shows.alone.none_open in
+    let data_alone = all_data (queue.frontier + 1) queue.sealed volume.objects.uploads.window.objects none uploads.waiting
+    uploads.opened in
+    let sealed = few_sealed stream (expected_of_volume volume.objects) queue.frontier queue.end
+    (from_object queue.frontier stream).entries (owners stream queue.frontier) (drop k plain.objects) queue.sealed objects.sealed
+    data_alone follow in
     let whole : end_after (end_at stream queue.frontier) (drop k plain.objects) ≡ end_after plain.end plain.objects =
     sym (end_in_parts plain.end (take k plain.objects) (drop k plain.objects))
     ∙ ap (end_after plain.end) (take-append-drop k plain.objects) in
@@ -125,7 +140,7 @@ work_bound volume plain shows uploads =
     take_all (last_number stream - plain.number) plain.objects (omega arith) in
     let last_end : end_at stream (last_number stream) ≡ end_after plain.end plain.objects = ap (end_after plain.end) all in
     let frontier : queue.frontier ≡ frontier_of plain =
-    sym (frontier_below queue volume.objects.uploads.window uploads)
+    sym (frontier_below volume.objects.uploads uploads)
     ∙ ap (λ (w : WindowState). below_open w) shows.objects.window in
     let end : queue.end ≡ frontier_end plain = objects.end ∙ ap (end_at stream) frontier in
     let open_ = few_open (queue.frontier + 1) queue.sealed volume.objects.uploads.window.objects uploads.opened in

@@ -2,7 +2,7 @@
 use Rattle.std.proofs.Common.{arith, ◌≡◌, ℕ, ◌+◌, ◌*◌, ◌-◌, ◌<◌, ◌==◌, ◌⊎◌, inl, inr, Bool, true, false, cond, not, ◌&&◌, List}
 use Rattle.std.proofs.Common.{[], ◌∷◌, ◌++◌, length, take, length-append, length-drop, refl, sym, ◌∙◌, ap, subst}
 use Rattle.std.specs.Prelude.{Option, Some, None, Result, Ok, Err, IfOk, if◌then◌else◌}
-use Rattle.std.specs.List.{list_any}
+use Rattle.std.specs.List.{All, list_any}
 use Rattle.std.proofs.lemmas.Bool.Decides.{nat_tests}
 use Rattle.std.proofs.lemmas.List.{take_all}
 use Rattle.lsvd_base.specs.declared.entry.Entry.{Entry}
@@ -17,7 +17,6 @@ use Rattle.object_stream.proofs.StreamLemmas.{end_in_parts}
 use Rattle.upload_window.specs.declared.object.OpenObject.{OpenObject}
 use Rattle.upload_window.specs.Window.{WindowState, has_number, lowest_ready, is_started, with_started, marked, acknowledged}
 use Rattle.upload_window.specs.Window.{entered, below_open}
-use Rattle.object_uploads.specs.Order.{IsUploads}
 use Rattle.object_uploads.specs.State.{JobState}
 use Rattle.object_uploads.specs.Changes.{IsJobOf}
 use Rattle.refine_log.specs.Fuses.{fuse_in}
@@ -216,18 +215,18 @@ module _ {R : Type 0} (state : R → ReceiptState) (reply : Reply R) (old new : 
       )
 
   -- where none begins, none is on its way
-  pub none_taken : IsIdle old.volume → IsUploads old.volume.objects.uploads.queue old.volume.objects.uploads.window
-      → job_in reply ≡ None
+  pub none_taken : IsIdle old.volume → job_in reply ≡ None
       → (new.volume.objects.uploads.window.objects ≡ []) × IsIdle new.volume × (work_of new.volume ≡ work_of old.volume)
-  none_taken idle uploads none =
+  none_taken idle none =
       let after = taking in
       let was = shown_idle old.volume plain shows idle in
       let lowest : lowest_ready plain.window.objects ≡ None =
       none_lowest state old.volume reply (lowest_ready plain.window.objects) after.tells none in
       let same : after.after.window ≡ plain.window = after.window ∙ ap (λ l. window_after_take l plain.window) lowest in
       let empty : old.volume.objects.uploads.window.objects ≡ [] =
-      none_is_ready (old.volume.objects.uploads.queue.frontier + 1) old.volume.objects.uploads.queue.sealed
-      old.volume.objects.uploads.window.objects uploads.opened idle.puts
+      none_is_ready old.volume.objects.uploads.window.objects
+      (subst (λ (w : WindowState). All (λ (object : OpenObject). object.is_checkpoint ≡ false) w.objects)
+      (sym shows.objects.window) shows.alone.none_open) idle.puts
       (ap (λ (w : WindowState). lowest_ready w.objects) shows.objects.window ∙ lowest) in
       let now : new.volume.objects.uploads.window ≡ old.volume.objects.uploads.window =
       after.shows.objects.window ∙ same ∙ sym shows.objects.window in

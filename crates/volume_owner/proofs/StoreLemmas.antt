@@ -18,7 +18,7 @@ use Rattle.object_stream.specs.declared.object.StreamObject.{StreamObject}
 use Rattle.object_uploads.specs.Order.{IsUploads}
 use Rattle.object_uploads.specs.State.{JobState}
 use Rattle.object_uploads.specs.Changes.{IsOut, IsJobOf}
-use Rattle.object_uploads.proofs.OpenLemmas.{frontier_below}
+use Rattle.object_uploads.proofs.UploadsKept.{frontier_below}
 use Rattle.plain_disk.specs.declared.event.PlainEvent.{PlainEvent}
 use Rattle.plain_disk.specs.declared.event.PlainEvent.TheVariants as events
 use Rattle.plain_disk.specs.Cache.{after_reads}
@@ -214,7 +214,7 @@ module _ {R : Type 0} (state : R → ReceiptState) (reply : Reply R) (old new : 
       } in
       seal_either objects (has_unsealed ready && not (is_busy ready)) after ready refl refl
 
-  take_window : (objects : Objects) → IsUploads old.objects.uploads.queue old.objects.uploads.window → (lowest : Option ℕ)
+  take_window : (objects : Objects) → IsUploads old.objects.uploads → (lowest : Option ℕ)
       → lowest_ready plain.window.objects ≡ lowest → Tells state old reply (reply_of_taken lowest)
       → IsWindowStep uuid old objects plain (window_after_take lowest plain.window)
   take_window objects order None is tells = stays refl
@@ -227,10 +227,10 @@ module _ {R : Type 0} (state : R → ReceiptState) (reply : Reply R) (old new : 
       let open_ = ready_is_open n _ plain.window.objects is in
       let within = open_within n 0 plain.window.objects plain.window.last shows.valid.window.order open_ in
       let below : below_open plain.window ≡ old.objects.uploads.queue.frontier =
-      ap below_open (sym shows.objects.window) ∙ frontier_below old.objects.uploads.queue old.objects.uploads.window order in
+      ap below_open (sym shows.objects.window) ∙ frontier_below old.objects.uploads order in
       let last : old.objects.uploads.window.last ≡ plain.window.last =
       ap (λ (w : WindowState). w.last) shows.objects.window in
-      let object = job_is_object shows.data_at old.objects plain n job order shows.valid shows.objects
+      let object = job_is_object shows.data_at old.objects plain n job order shows.valid shows.alone shows.objects
       (omega (arith, within.0, below)) (omega (arith, within.1, last)) is_job in
       begins n job.bytes refl open_ is_job.bytes
       (subst (λ g. IsObjectOf (expected_of uuid g) plain n job.bytes) shows.objects.geometry object)
@@ -259,7 +259,7 @@ module _ {R : Type 0} (state : R → ReceiptState) (reply : Reply R) (old new : 
       → IfSome held (λ o. found o name ≡ Some bytes) → held ≡ Some objects → found objects name ≡ Some bytes
   its_object name bytes held objects has is = subst (λ h. IfSome h (λ o. found o name ≡ Some bytes)) is has
 
-  step_by : (event : Event R) → HasItsObject event old store → IsUploads old.objects.uploads.queue old.objects.uploads.window
+  step_by : (event : Event R) → HasItsObject event old store → IsUploads old.objects.uploads
       → IsStep state event reply plain old new ⊎ IsNoStep state event reply plain old new
       → StepKeeps (entered_by_event event reply) plain old new store
   step_by (asks.Write lba body) object order by = entry_keeps (entries.Write lba body) by

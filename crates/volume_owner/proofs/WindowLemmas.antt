@@ -2,14 +2,12 @@
 use Rattle.std.proofs.Common.{arith, ◌≡◌, ℕ, suc, ◌+◌, nat_eq, Bool, true, false, cond, ◌||◌, List, [], ◌∷◌, ◌++◌, length, refl}
 use Rattle.std.proofs.Common.{sym, ap, subst, inl, inr}
 use Rattle.std.specs.Prelude.{Option, Some, None, option_map, find}
-use Rattle.std.specs.List.{list_any}
+use Rattle.std.specs.List.{All, list_any}
 use Rattle.std.proofs.Math.Bool.{or-true}
 use Rattle.std.proofs.lemmas.Bool.{cases_eq, eq-eqb, ne_eqb}
-use Rattle.lsvd_objstore.specs.Store.{ReceiptState}
+use Rattle.std.proofs.lemmas.List.Elements.{All-head}
 use Rattle.upload_window.specs.declared.object.OpenObject.{OpenObject}
 use Rattle.upload_window.specs.Window.{has_number, is_ready, lowest_ready, is_started, with_started, without}
-use Rattle.object_uploads.specs.Order.{IsOpenFirst, AreOpen}
-use Rattle.object_uploads.specs.State.{SealedState}
 
 -- the put of some object is under way
 abbrev pub any_started : List OpenObject → Bool
@@ -26,37 +24,19 @@ pub none_started_first : (object : OpenObject) (objects : List OpenObject) → a
     → (object.is_started ≡ false) × (any_started objects ≡ false)
 none_started_first object objects none = either_false object.is_started (any_started objects) none
 
--- the objects that are open are no checkpoints
-abbrev FirstIsData : List OpenObject → Type 0
-FirstIsData [] = Unit {0}
-FirstIsData (object ∷ objects) = object.is_checkpoint ≡ false
-
-data_by : (number : ℕ) (receipt : Option ReceiptState) (has_spare : Bool) (objects : List OpenObject)
-    (Rest : List OpenObject → Type 0)
-    → ((more : List OpenObject) → Rest more → FirstIsData more) → IsOpenFirst number receipt has_spare objects Rest
-    → FirstIsData objects
-data_by number (Some receipt) has_spare objects Rest rest are = rest objects are
-data_by number None has_spare [] Rest rest are = absurd are
-data_by number None has_spare (object ∷ objects) Rest rest are = are.1
-
-first_is_data : (number : ℕ) (sealed : List SealedState) (objects : List OpenObject) → AreOpen number sealed objects
-    → FirstIsData objects
-first_is_data number [] objects are = subst FirstIsData (sym are) tt
-first_is_data number (one ∷ sealed) objects are =
-    data_by number one.receipt one.has_spare objects (AreOpen (number + 1) sealed) (first_is_data (number + 1) sealed) are
-
 ready_by : (object : OpenObject) (objects : List OpenObject) → object.is_started ≡ false → object.is_checkpoint ≡ false
     → is_ready objects object ≡ true
 ready_by object objects not_started no_checkpoint = rw (not_started, no_checkpoint) refl
 
--- so one is ready, unless there is none
-pub none_is_ready : (number : ℕ) (sealed : List SealedState) (objects : List OpenObject) → AreOpen number sealed objects
+-- so one is ready where none is a checkpoint, unless there is none
+pub none_is_ready : (objects : List OpenObject) → All (λ (object : OpenObject). object.is_checkpoint ≡ false) objects
     → any_started objects ≡ false → lowest_ready objects ≡ None → objects ≡ []
-none_is_ready number sealed [] are none lowest = refl
-none_is_ready number sealed (object ∷ objects) are none lowest =
+none_is_ready [] data_ none lowest = refl
+none_is_ready (object ∷ objects) data_ none lowest =
     let first = none_started_first object objects none in
     let ready : is_ready (object ∷ objects) object ≡ true =
-    ready_by object (object ∷ objects) first.0 (first_is_data number sealed (object ∷ objects) are) in
+    ready_by object (object ∷ objects) first.0
+    (All-head (λ (o : OpenObject). o.is_checkpoint ≡ false) object objects data_) in
     let found = ap (λ (b : Bool). option_map (λ (o : OpenObject). o.number)
     (cond b (Some object) (find (is_ready (object ∷ objects)) objects))) ready in
     let bad : ⊥ = cc in

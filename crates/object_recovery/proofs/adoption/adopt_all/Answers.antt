@@ -49,8 +49,8 @@ loop-reached-preserved g c =
           list_more begun.uploads.uuid begun.batch.geometry old.uploads.window.last old.uploads.queue.end adopts.end adopts.rows
           adopts.receipt old new is adopts.adopted;
       places =
-          places_more begun.batch.geometry.sectors adopts.end adopts.rows (next_of old) adopts.receipt old.uploads.queue
-          new.uploads.queue
+          places_more old.uploads.uuid begun.batch.geometry.sectors adopts.end adopts.rows (next_of old) adopts.receipt
+          old.uploads.queue new.uploads.queue
           adopts.order.known (ap (λ (sizes : Geometry). sizes.sectors) is.geometry_is) adopts.read
           adopts.adopted.uploads.settled before.places;
       from = omega (arith, next, before.from);

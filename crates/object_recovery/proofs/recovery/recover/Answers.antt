@@ -166,6 +166,7 @@ returns g c =
       found = record {
         list = done.list;
         from = done.from;
+        order = done.order;
         places = done.places;
         names = record {
           of_volume = subst (λ u. AreNamesOf u names) own listing.names;

@@ -23,9 +23,10 @@ pub adopt_all-requires-clause-list : goal.adopt_all-requires-clause-list
 adopt_all-requires-clause-list g c =
     let base = c.args.base.now in
     let made = c.new-log.ensures in
+    let low : c.args.geometry.sectors ≤ 2147483648 = grind (arith, nat_tests, c.requires) in
     own_list c.args.uuid c.args.geometry base.number base.end c.new-log.result
-    (new_list c.args.uuid c.args.geometry base.number base.end c.new-log.result
-    made.batch made.uuid made.window made.frontier made.end made.sealed made.settled made.log).list
+    (new_list c.args.uuid c.args.geometry base.number base.end c.new-log.result made.batch made.uuid made.sectors low made.window
+    made.frontier made.end made.sealed made.receipts made.removal made.settled made.log made.objects made.checkpoint).list
 
 pub adopt_all-requires-clause-places : goal.adopt_all-requires-clause-places
 adopt_all-requires-clause-places g c = no_places c.new-log.result.batch.geometry.sectors c.new-log.result.uploads.queue
@@ -41,6 +42,7 @@ returns-in-Err g c =
     record {
       list = tt;
       from = tt;
+      order = tt;
       places = tt;
       recovers = λ tells. tt;
       refused = λ tells.
@@ -56,8 +58,9 @@ begun : (g : given.Over) (c : In-Ok g)
 begun g c =
     let base = c.args.base.now in
     let made = c.new-log.ensures in
-    new_list c.args.uuid c.args.geometry base.number base.end c.new-log.result made.batch made.uuid made.window made.frontier
-    made.end made.sealed made.settled made.log
+    let low : c.args.geometry.sectors ≤ 2147483648 = grind (arith, nat_tests, c.requires) in
+    new_list c.args.uuid c.args.geometry base.number base.end c.new-log.result made.batch made.uuid made.sectors low made.window
+    made.frontier made.end made.sealed made.receipts made.removal made.settled made.log made.objects made.checkpoint
 
 adopted : (g : given.Over) (c : In-Ok g)
     → IsListUpTo c.args.uuid c.args.geometry c.adopt_all.new.log.uploads.window.last c.adopt_all.new.log.uploads.queue.end
@@ -88,6 +91,7 @@ returns-in-Err-judge_rest g c =
     record {
       list = tt;
       from = tt;
+      order = tt;
       places = tt;
       recovers = λ tells. tt;
       refused = λ tells.
@@ -117,6 +121,7 @@ returns-in-Ok-judge_rest g c =
     record {
       list = adopted g at;
       from = subst (λ n. n ≤ log.uploads.window.last) (ap (λ (w : WindowState). w.last) is.list.window) done.from;
+      order = done.order;
       places =
           subst (λ (sizes : Geometry). HasPlacesInside sizes.sectors log.uploads.queue) is.list.geometry_is done.places;
       recovers = λ tells.

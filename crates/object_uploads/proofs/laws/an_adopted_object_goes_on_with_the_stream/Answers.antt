@@ -1,4 +1,5 @@
-use Rattle.object_uploads.proofs.AdoptLemmas.{adopting_keeps_stream, adopting_makes_image}
+use Rattle.object_uploads.proofs.AdoptLemmas.{adopting_keeps_stream}
+use Rattle.object_uploads.proofs.ImageLemmas.{adopting_makes_image}
 use Rattle.object_uploads.proofs.laws.an_adopted_object_goes_on_with_the_stream.Goals as goal
 
 pub returns : goal.returns

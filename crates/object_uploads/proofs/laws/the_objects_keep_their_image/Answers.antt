@@ -1,5 +1,6 @@
 use Rattle.object_uploads.proofs.ImageLemmas.{image_begins, entering_keeps_image, sealing_keeps_image, room_keeps_image}
 use Rattle.object_uploads.proofs.ImageLemmas.{jobs_keep_image}
+use Rattle.object_uploads.proofs.RemovalImage.{pins_keep_image, removals_keep_image}
 use Rattle.object_uploads.proofs.laws.the_objects_keep_their_image.Goals as goal
 
 pub returns : goal.returns
@@ -9,4 +10,6 @@ returns c = record {
   sealed = sealing_keeps_image;
   same = room_keeps_image;
   jobs = jobs_keep_image;
+  pins = pins_keep_image;
+  removals = removals_keep_image;
 }

@@ -11,18 +11,18 @@ use Rattle.vol_core.specs.Creating.{CostsFormat, CanFormat, CreatedOf}
 use Rattle.vol_core.specs.Stops.{HasOwnCommits}
 use Rattle.vol_core.proofs.CreateLemmas.{created_shows, created_own, created_pends}
 use Rattle.vol_core.proofs.creating.create.Given as given
-use Rattle.vol_core.proofs.creating.create.Goals.{After-new-objects}
+use Rattle.vol_core.proofs.creating.create.Goals.{After-frontier}
 use Rattle.vol_core.proofs.creating.create.Goals as goal
 
-shows : (g : given.Over) (c : After-new-objects g) → Shows (volume_of c.new-objects.result c.in_ok-log.log [] 1)
+shows : (g : given.Over) (c : After-frontier g) → Shows (volume_of c.new-objects.result c.in_ok-log.log [] 1)
     (passing (fuse_in c.in_ok-log.log.commits.disk.budget) (created_volume c.args.geometry))
 shows g c =
     let e = c.new-objects.ensures in
     created_shows c.new-objects.result c.in_ok-log.log _ 0 c.args.geometry _ c.requires.limits c.requires.log
     c.in_ok-log.ensures.ok
-    e.batch e.window e.frontier e.end e.sealed e.settled e.log
+    e.batch (rw c.uploads.ensures at c.frontier.ensures.order) (e.sectors) e.window e.frontier e.end e.sealed e.settled e.log
 
-own : (g : given.Over) (c : After-new-objects g)
+own : (g : given.Over) (c : After-frontier g)
     → HasOwnCommits (owner_with c.args.uuid 0) (volume_of c.new-objects.result c.in_ok-log.log [] 1)
 own g c =
     created_own c.new-objects.result c.in_ok-log.log c.into_bytes.result c.args.uuid (g.D.Disk.state c.args.disk)
@@ -31,7 +31,7 @@ own g c =
 pub new-requires-clause-shows : goal.new-requires-clause-shows
 new-requires-clause-shows g c = (_, shows g c)
 
-pends : (g : given.Over) (c : After-new-objects g) → CanFormat (g.D.Disk.state c.args.disk)
+pends : (g : given.Over) (c : After-frontier g) → CanFormat (g.D.Disk.state c.args.disk)
     → ShowsPending c.in_ok-log.log (created_volume c.args.geometry).cache
 pends g c can =
     let size : length c.into_bytes.result ≡ 16 = search rules in
@@ -60,7 +60,7 @@ returns g c =
     let uuid = c.args.uuid in
     let disk = g.D.Disk.state c.args.disk in
     let log = c.in_ok-log.log in
-    let before = (goal.at.returns g c).After-new-objects in
+    let before = (goal.at.returns g c).After-frontier in
     let created : CreatedOf uuid c.args.geometry disk (record { volume = volume_of c.new-objects.result log [] 1; steps = 0 }) =
     record {
       is = record {

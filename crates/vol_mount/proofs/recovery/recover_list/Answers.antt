@@ -52,6 +52,7 @@ returns g c =
     record {
       list = record {
         list = is.found.list;
+        order = is.found.order;
         places = is.found.places;
         numbered = omega (arith, c.checkpoint.ensures, c.if-checkpoint-eq0.false);
         from = is.found.from;

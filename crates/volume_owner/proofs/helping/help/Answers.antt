@@ -89,7 +89,7 @@ seal-requires g c =
     let old : SteppedVolume = c.args.volume.now in
     let mid : SteppedVolume = c.step.new.self in
     let of = c.step.ensures in
-    let left = none_taken state reply old mid of of.was.plain of.was.shows c.requires.idle of.order.uploads
+    let left = none_taken state reply old mid of of.was.plain of.was.shows c.requires.idle
     (sym c.job_of.ensures ∙ c.in-None.is) in
     record {
       steps = omega (arith, c.requires.steps, of.count);
@@ -108,7 +108,7 @@ returns-in-None g c =
     let shows = of.was.shows in
     let last : SteppedVolume = c.seal.new.volume in
     let first : StoreState = g.S.Store.state c.args.store.now in
-    let left = none_taken state reply old mid of plain shows c.requires.idle of.order.uploads
+    let left = none_taken state reply old mid of plain shows c.requires.idle
     (sym c.job_of.ensures ∙ c.in-None.is) in
     let sealed = c.seal.ensures in
     let no_fault = memory_alone c.seal.result sealed.error in

@@ -4,7 +4,7 @@ use Rattle.object_uploads.specs.State.{QueueState}
 use Rattle.object_uploads.specs.Queue.{with_receipt}
 use Rattle.object_uploads.proofs.QueueLemmas.{set_with, length-with}
 use Rattle.object_uploads.proofs.RoomLemmas.{kept_with}
-use Rattle.object_uploads.proofs.KnownLemmas.{known_in}
+use Rattle.object_uploads.proofs.QueueKept.{known_as}
 use Rattle.object_uploads.proofs.queue.Queue.acknowledge.Goals as goal
 
 pub unwrap-requires : goal.unwrap-requires
@@ -20,8 +20,9 @@ invariant_of-self g c =
     let change = with_receipt (g.R.Receipt.state c.args.receipt) in
     let set = set_with c.args.index change list c.unwrap.result.now c.acknowledge.new.self at c.acknowledge.ensures in
     let before = c.self.invariant in
-    let kept = kept_with c.args.index change list _ _ _ _ _ _ _ set (λ s. refl) before.0 before.1 before.3 before.4 before.5 in
-    (kept.0, kept.1, known_in _ _ before.2 refl refl refl refl, kept.2, kept.3, kept.4)
+    let kept = kept_with c.args.index change list _ _ _ _ _ _ _ _ set (λ s. refl) before.0 before.1 before.3 before.4
+    before.5 before.6 in
+    (kept.0, kept.1, known_as _ _ before.2 refl refl refl refl, kept.2, kept.3, kept.4, kept.5)
 
 pub returns : goal.returns
 returns g c =

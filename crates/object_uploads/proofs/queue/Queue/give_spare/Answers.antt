@@ -4,7 +4,7 @@ use Rattle.object_uploads.specs.State.{QueueState}
 use Rattle.object_uploads.specs.Queue.{with_spare, HasBytesAt}
 use Rattle.object_uploads.proofs.QueueLemmas.{set_with, length-with, bytes_of_lent}
 use Rattle.object_uploads.proofs.RoomLemmas.{kept_with}
-use Rattle.object_uploads.proofs.KnownLemmas.{known_in}
+use Rattle.object_uploads.proofs.QueueKept.{known_as}
 use Rattle.object_uploads.proofs.queue.Queue.give_spare.Goals as goal
 
 pub unwrap-requires : goal.unwrap-requires
@@ -28,9 +28,9 @@ invariant_of-self g c =
     c.get_mut.ensures.value in
     let set = set_with c.args.index (with_spare true) list c.unwrap.result.now c.give_spare.new.self at c.give_spare.ensures in
     let before = c.self.invariant in
-    let kept = kept_with c.args.index (with_spare true) list _ _ _ _ _ _ _ set (λ s. refl) before.0 before.1 before.3 before.4
-    before.5 in
-    (kept.0, kept.1, known_in _ _ before.2 refl refl refl refl, kept.2, kept.3, kept.4)
+    let kept = kept_with c.args.index (with_spare true) list _ _ _ _ _ _ _ _ set (λ s. refl) before.0 before.1 before.3 before.4
+    before.5 before.6 in
+    (kept.0, kept.1, known_as _ _ before.2 refl refl refl refl, kept.2, kept.3, kept.4, kept.5)
 
 pub returns : goal.returns
 returns g c =

@@ -5,7 +5,7 @@ use Rattle.object_uploads.specs.Queue.{with_spare}
 use Rattle.object_uploads.specs.Invariant.{IsOpenAt}
 use Rattle.object_uploads.proofs.QueueLemmas.{set_with, length-with, lent_has}
 use Rattle.object_uploads.proofs.RoomLemmas.{kept_with}
-use Rattle.object_uploads.proofs.KnownLemmas.{known_in}
+use Rattle.object_uploads.proofs.QueueKept.{known_as}
 use Rattle.object_uploads.proofs.OpenLemmas.{inside, lent_open, spare_there, some_is}
 use Rattle.object_uploads.proofs.queue.Queue.take_spare.Goals as goal
 
@@ -32,9 +32,9 @@ invariant_of-self g c =
     let set = set_with c.args.index (with_spare false) list c.unwrap.result.now c.take_spare.new.self at
     c.take_spare.ensures.taken in
     let before = c.self.invariant in
-    let kept = kept_with c.args.index (with_spare false) list _ _ _ _ _ _ _ set (λ s. refl) before.0 before.1 before.3 before.4
-    before.5 in
-    (kept.0, kept.1, known_in _ _ before.2 refl refl refl refl, kept.2, kept.3, kept.4)
+    let kept = kept_with c.args.index (with_spare false) list _ _ _ _ _ _ _ _ set (λ s. refl) before.0 before.1 before.3 before.4
+    before.5 before.6 in
+    (kept.0, kept.1, known_as _ _ before.2 refl refl refl refl, kept.2, kept.3, kept.4, kept.5)
 
 pub returns-clause-bytes : goal.returns-clause-bytes
 returns-clause-bytes g c =

@@ -2,7 +2,8 @@ use Rattle.std.proofs.Common.{◌≡◌, true, false, sym, subst, ◌∙◌}
 use Rattle.object_uploads.specs.State.{UploadsState}
 use Rattle.upload_window.specs.Window.{is_started}
 use Rattle.object_uploads.specs.Invariant.{IsOpenAt}
-use Rattle.object_uploads.proofs.OpenLemmas.{inside, IsOpenIn, then_marked}
+use Rattle.object_uploads.proofs.OpenLemmas.{inside}
+use Rattle.object_uploads.proofs.UploadsKept.{IsOpenIn, uploads_failed}
 use Rattle.object_uploads.proofs.uploads.Uploads.job_failed.Goals as goal
 
 pub give_spare-requires-clause-inside : goal.give_spare-requires-clause-inside
@@ -14,10 +15,11 @@ give_spare-requires-clause-inside g c =
 pub invariant_of-self : goal.invariant_of-self
 invariant_of-self g c =
     let number = c.name.result.now.number in
-    let in_ : IsOpenIn c.args.self.now number c.in-Some.index false =
+    let own = c.self.inside in
+    let in_ : IsOpenIn c.args.self.now.queue number c.in-Some.index false =
     record { index_is = c.in-Some.ensures.index; past = c.in-Some.ensures.past; opened = c.in-Some.ensures.there } in
-    then_marked (record { uuid = c.self.inside.uuid; queue = c.self.inside.queue; window = c.self.inside.window })
-    c.give_spare.new.self c.fail.new.self number c.in-Some.index false false
-    c.self.invariant (subst (λ u. IsOpenIn u number c.in-Some.index false) (sym c.self.view_is) in_) c.give_spare.ensures
+    uploads_failed own.uuid own.sectors own.window c.fail.new.self own.queue c.give_spare.new.self number c.in-Some.index
+    c.self.invariant (subst (λ (u : UploadsState). IsOpenIn u.queue number c.in-Some.index false) (sym c.self.view_is) in_)
+    c.give_spare.ensures
     (c.fail.ensures.ready (c.fail.ensures.started ∙ subst (λ (u : UploadsState). is_started number u.window.objects ≡ true)
     (sym c.self.view_is) c.in-Some.ensures.out.started))

@@ -10,6 +10,7 @@ returns g c =
     let order : IsSound volume = record {
       on_disk = c.on_disk.ensures;
       uploads = rw c.uploads.ensures at c.frontier.ensures.order;
+      sectors = c.self.invariant.shows.objects.stream.sectors;
     } in
     record {
       shown = subst IsVolume c.self.view_is c.self.invariant;

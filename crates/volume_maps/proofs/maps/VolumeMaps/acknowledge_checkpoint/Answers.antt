@@ -19,3 +19,6 @@ invariant_of-self c =
     (omega (arith, newest.above_checkpoint))
     (All-map (λ (row : ObjectRow). row.number < number) passed objects.rows newest.above_rows) refl
     )
+
+pub returns-clause-counted : goal.returns-clause-counted
+returns-clause-counted c = (invariant_of-self c).counted

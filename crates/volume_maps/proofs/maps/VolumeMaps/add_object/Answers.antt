@@ -13,3 +13,6 @@ invariant_of-self c =
     kept_more c.self.inside.settled.rows objects (added new objects) new c.self.invariant refl
     (omega (arith, newest.above_checkpoint)) newest.above_rows refl
     )
+
+pub returns-clause-counted : goal.returns-clause-counted
+returns-clause-counted c = (invariant_of-self c).counted

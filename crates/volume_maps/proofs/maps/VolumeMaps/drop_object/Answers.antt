@@ -9,3 +9,6 @@ invariant_of-self c =
     let none = subst (λ (maps : MapsState). live_sectors c.args.number maps.settled.rows ≡ 0) (sym c.self.view_is) c.requires in
     kept_without c.self.inside.settled.rows c.self.inside.objects c.drop_row.new.self c.args.number c.self.invariant none
     c.drop_row.ensures.rows
+
+pub returns-clause-counted : goal.returns-clause-counted
+returns-clause-counted c = (invariant_of-self c).counted

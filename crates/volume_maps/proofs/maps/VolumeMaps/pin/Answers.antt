@@ -12,3 +12,6 @@ invariant_of-self c =
     kept_counts c.self.inside.settled.rows objects (with_changed pinned number objects) c.self.invariant
     (changed_unseen count_of pinned number objects.rows (λ row. refl))
     )
+
+pub returns-clause-counted : goal.returns-clause-counted
+returns-clause-counted c = (invariant_of-self c).counted

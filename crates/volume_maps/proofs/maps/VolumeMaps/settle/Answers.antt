@@ -36,6 +36,8 @@ loop-row-preserved c =
           ∙ (sym (logged_push end (take i rows) row (log k) k) ∙ sym (ap (λ xs. logged_by end xs (log k) k) split)));
       objects = same_twice c.args.self.now.objects c.loop-row.self.objects c.settle_row.new.self.objects kept.objects
           step.objects;
+      counted = step.counted;
+      shortest = step.shortest;
       object_spare = step.object_spare ∙ kept.object_spare;
       settled_spare = omega (arith, kept.settled_spare, step.settled_spare);
       log_spare = omega (arith, kept.log_spare, step.log_spare);

@@ -12,3 +12,6 @@ invariant_of-self c =
     kept_counts c.self.inside.settled.rows objects (with_changed unpinned number objects) c.self.invariant
     (changed_unseen count_of unpinned number objects.rows (λ row. refl))
     )
+
+pub returns-clause-counted : goal.returns-clause-counted
+returns-clause-counted c = (invariant_of-self c).counted

@@ -1,0 +1,5 @@
+use Rattle.object_uploads.proofs.KeepLemmas.{removals_keep_stream}
+use Rattle.object_uploads.proofs.laws.removals_keep_the_stream.Goals as goal
+
+pub returns : goal.returns
+returns c = removals_keep_stream

@@ -1,0 +1,55 @@
+use Rattle.std.proofs.Common.{◌≡◌, ◌∷◌, ◌++◌, List, [], length, None, sym, ◌∙◌, ap, refl, subst, arith}
+use Rattle.std.specs.Prelude.{map}
+use Rattle.object_table.specs.declared.row.ObjectRow.{ObjectRow}
+use Rattle.object_table.specs.Table.{IsNewest, new_row, passed}
+use Rattle.volume_maps.specs.Maps.{MapsState}
+use Rattle.object_uploads.specs.State.{SealedState, NumberedReceipt, QueueState}
+use Rattle.object_uploads.specs.Receipts.{MayCome}
+use Rattle.object_uploads.specs.Invariant.{count_out}
+use Rattle.object_uploads.proofs.RoomLemmas.{room_none}
+use Rattle.object_uploads.proofs.QueueKept.{newest_may_come}
+use Rattle.object_uploads.proofs.QueueSettled.{known_passed}
+use Rattle.object_uploads.proofs.queue.Queue.begin.Goals as goal
+
+pub push-requires-clause-last : goal.push-requires-clause-last
+push-requires-clause-last g c =
+    let newest = subst (λ (q : QueueState). IsNewest q.maps.objects q.frontier) (sym c.self.view_is) c.requires.newest in
+    subst (MayCome c.self.inside.frontier) (sym c.reserve.ensures.list)
+    (newest_may_come _ c.self.inside.frontier c.self.invariant.2 newest)
+
+pub invariant_of-self-2 : goal.invariant_of-self-2
+invariant_of-self-2 g c =
+    let before = c.self.invariant in
+    let number = c.self.inside.frontier in
+    let newest = subst (λ (q : QueueState). IsNewest q.maps.objects q.frontier) (sym c.self.view_is) c.requires.newest in
+    let none = subst (λ (q : QueueState). q.sealed ≡ []) (sym c.self.view_is) c.requires.none in
+    let out = subst (λ (q : QueueState). q.removal ≡ None) (sym c.self.view_is) c.requires.no_removal in
+    let own : NumberedReceipt = record { number = number; receipt = g.R.Receipt.state c.args.receipt } in
+    let e = c.in_ok-reserve-2.ensures in
+    let now = c.acknowledge_checkpoint.ensures in
+    let size = ap (λ (list : List SealedState). length list) none in (
+      room_none c.self.inside.sealed.items c.acknowledge_checkpoint.new.self none,
+      before.1,
+      known_passed _ _ number (g.R.Receipt.state c.args.receipt) before.2 newest (omega arith) refl
+          (c.push.ensures.list ∙ ap (λ (list : List NumberedReceipt). list ++ own ∷ []) c.reserve.ensures.list) refl
+          (ap (λ (m : MapsState). m.objects.rows) now.passed
+          ∙ ap (λ (rows : List ObjectRow). map passed rows ++ new_row number 0 0 ∷ []) e.rows)
+          (ap (λ (m : MapsState). m.objects.checkpoint) now.passed) now.counted,
+      before.3,
+      omega (arith, size, ap count_out out),
+      omega (arith, size),
+      before.6,
+    )
+
+pub returns-clause-known : goal.returns-clause-known
+returns-clause-known g c =
+    let number = c.self.inside.frontier in
+    let newest = subst (λ (q : QueueState). IsNewest q.maps.objects q.frontier) (sym c.self.view_is) c.requires.newest in
+    let own : NumberedReceipt = record { number = number; receipt = g.R.Receipt.state c.args.receipt } in
+    let e = c.in_ok-reserve-2.ensures in
+    let now = c.acknowledge_checkpoint.ensures in
+    known_passed _ _ number (g.R.Receipt.state c.args.receipt) c.self.invariant.2 newest (omega arith) refl
+    (c.push.ensures.list ∙ ap (λ (list : List NumberedReceipt). list ++ own ∷ []) c.reserve.ensures.list) refl
+    (ap (λ (m : MapsState). m.objects.rows) now.passed
+    ∙ ap (λ (rows : List ObjectRow). map passed rows ++ new_row number 0 0 ∷ []) e.rows)
+    (ap (λ (m : MapsState). m.objects.checkpoint) now.passed) now.counted

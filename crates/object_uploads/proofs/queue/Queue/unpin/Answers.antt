@@ -1,0 +1,28 @@
+use Rattle.std.proofs.Common.{refl, ap, arith}
+use Rattle.object_table.specs.Table.{TableState, unpinned}
+use Rattle.volume_maps.specs.Maps.{MapsState}
+use Rattle.object_uploads.proofs.RoomLemmas.{room_same}
+use Rattle.object_uploads.proofs.QueueSettled.{known_pinned}
+use Rattle.object_uploads.proofs.queue.Queue.unpin.Goals as goal
+
+pub invariant_of-self : goal.invariant_of-self
+invariant_of-self g c =
+    let before = c.self.invariant in
+    let e = c.unpin.ensures in
+    let objects = ap (λ (m : MapsState). m.objects) e.unpinned in (
+      room_same _ c.self.inside.maps c.unpin.new.self (ap (λ (m : MapsState). m.settled) e.unpinned)
+          (ap (λ (m : MapsState). m.log) e.unpinned) before.0,
+      before.1,
+      known_pinned unpinned c.args.number _ _ (λ r. refl) before.2 refl refl refl objects e.counted,
+      before.3,
+      before.4,
+      omega (arith, before.5, ap (λ (t : TableState). t.spare) objects),
+      before.6,
+    )
+
+pub returns-clause-known : goal.returns-clause-known
+returns-clause-known g c =
+    let e = c.unpin.ensures in
+    known_pinned unpinned c.args.number _ _ (λ r. refl) c.self.invariant.2 refl refl refl (ap (λ
+    (m : MapsState). m.objects) e.unpinned)
+    e.counted

@@ -1,0 +1,17 @@
+use Rattle.std.proofs.Common.{◌≡◌, subst, sym, rules}
+use Rattle.std.specs.List.{All}
+use Rattle.lsvd_names.specs.Names.{numbered_name}
+use Rattle.object_uploads.proofs.NamesKept.{IsNamed, named_with}
+use Rattle.object_uploads.proofs.UploadsKept.{uploads_changed}
+use Rattle.object_uploads.proofs.uploads.Uploads.remove_failed.Goals as goal
+
+pub invariant_of-self : goal.invariant_of-self
+invariant_of-self g c =
+    let own = c.self.inside in
+    let e = c.remove_failed.ensures in
+    let receipt = g.R.Receipt.state c.args.receipt in
+    let number = c.name-name.result.number in
+    let named : receipt.name ≡ numbered_name own.uuid number = search rules in
+    uploads_changed own.uuid own.sectors own.window own.queue c.remove_failed.new.self c.self.invariant e.rest e.known
+    (subst (All (IsNamed own.uuid)) (sym e.receipts)
+    (named_with own.uuid number receipt own.queue.receipts named c.self.invariant.known.named))
