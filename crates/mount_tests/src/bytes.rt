@@ -20,7 +20,18 @@ pub const CLONE: &[u8] = &[
     0, 0, 0x40, 0, 0x80, 0, 0, 0, 0, 0, 0, 2, 0, 0, 0, 0, 0, 0, 0, 3,
 ];
 
-/// A numbered object as its header says it is. It has one row, which zeroes a sector, or none.
+/// What rows an object has.
+#[derive(Clone, Copy)]
+pub enum Content {
+    /// None.
+    Nothing,
+    /// The one row of a data object, which zeroes a sector.
+    Zeros,
+    /// The one row of a checkpoint, which maps a sector to the first place of the object of this number.
+    Maps(u64),
+}
+
+/// A numbered object as its header says it is.
 #[derive(Clone, Copy)]
 pub struct Object {
     pub kind: u32,
@@ -28,16 +39,19 @@ pub struct Object {
     pub number: u64,
     pub first: u64,
     pub end: u64,
-    pub has_row: bool,
+    pub content: Content,
 }
 
 /// Adds the bytes of a numbered object.
 pub fn add_object(bytes: &mut Vec<u8>, object: &Object) -> Result<(), AllocError> {
     add_head(bytes, object)?;
-    bytes.extend_from_slice(&u32::from(object.has_row).to_be_bytes())?;
+    let has_row = !matches!(object.content, Content::Nothing);
+    bytes.extend_from_slice(&u32::from(has_row).to_be_bytes())?;
     bytes.extend_from_slice(&[0; 8])?;
-    if object.has_row {
-        add_row(bytes)?;
+    match object.content {
+        Content::Nothing => {}
+        Content::Zeros => add_zeros(bytes)?,
+        Content::Maps(number) => add_place(bytes, number)?,
     }
     bytes.resize(512, 0)
 }
@@ -54,8 +68,20 @@ fn add_head(bytes: &mut Vec<u8>, object: &Object) -> Result<(), AllocError> {
 }
 
 // A row that zeroes the sector 5.
-fn add_row(bytes: &mut Vec<u8>) -> Result<(), AllocError> {
+fn add_zeros(bytes: &mut Vec<u8>) -> Result<(), AllocError> {
     for field in [5, 1, u64::MAX] {
+        bytes.extend_from_slice(&field.to_be_bytes())?;
+    }
+    Ok(())
+}
+
+// A row that maps the sector 5 to the first place of the volume's own object of this number.
+fn add_place(bytes: &mut Vec<u8>, number: u64) -> Result<(), AllocError> {
+    for field in [5u64, 1] {
+        bytes.extend_from_slice(&field.to_be_bytes())?;
+    }
+    bytes.extend_from_slice(&[0; 4])?;
+    for field in [number, 0] {
         bytes.extend_from_slice(&field.to_be_bytes())?;
     }
     Ok(())

@@ -4,7 +4,7 @@ use crate::bytes::OTHER;
 use crate::cache::{Cache, LEFT, SHORT, SIZE, device};
 use crate::scene::{Mount, mounted};
 use crate::store::Change::{Clone, Epoch, NoEpoch, NoObject, NoSuper, Object, OtherVolume};
-use crate::store::Stored::{Checkpoint, Copy, Cut, Data, Foreign, Misnamed};
+use crate::store::Stored::{Checkpoint, Copy, Cut, Data, Foreign, Mapping, Misnamed};
 use crate::store::{Change, change_all, put_volume};
 use crate::telling::tell_found;
 use lsvd_objstore::MemStore;
@@ -45,7 +45,7 @@ const GREAT: u64 = 1 << 60;
 const LAST: u64 = u64::MAX;
 
 /// Objects.
-pub static OBJECTS: [Row; 23] = [
+pub static OBJECTS: [Row; 26] = [
     LOST,
     Row {
         what: "a checkpoint alone",
@@ -132,6 +132,21 @@ pub static OBJECTS: [Row; 23] = [
     Row {
         what: "a copy, and a bad object past the gap",
         changes: &[Object(2, Copy(0)), Object(4, Misnamed)],
+        ..LOST
+    },
+    Row {
+        what: "a checkpoint that maps an object which is absent",
+        changes: &[NoObject(2), Object(3, Mapping(2, 2))],
+        ..LOST
+    },
+    Row {
+        what: "one that maps a place which the object does not have",
+        changes: &[Object(3, Mapping(2, 2))],
+        ..LOST
+    },
+    Row {
+        what: "one that maps such a place, and a bad object past the gap",
+        changes: &[Object(3, Mapping(2, 2)), Object(5, Misnamed)],
         ..LOST
     },
     Row {

@@ -1,7 +1,7 @@
 // Stores that are not as the program leaves them.
 ghost use Rattle.lsvd_names.specs.Spelling.{IsName};
 
-use crate::bytes::{CLONE, OTHER, Object, SUPER, UUID, add_epoch, add_object};
+use crate::bytes::{CLONE, Content, OTHER, Object, SUPER, UUID, add_epoch, add_object};
 use crate::names::{epoch_name, object_name, other_super_name, super_name};
 use lsvd_base::ObjectBytes;
 use lsvd_names::ObjName;
@@ -14,6 +14,8 @@ use test_output::TestError;
 pub enum Stored {
     /// A checkpoint without rows, with this end.
     Checkpoint(u64),
+    /// A checkpoint with this end, which maps a sector to the first place of the object of the second number.
+    Mapping(u64, u64),
     /// A data object with the entries from the first seq to the second.
     Data(u64, u64),
     /// A copy without rows, with this end.
@@ -131,8 +133,9 @@ fn object(alloc: Global, number: u64, stored: Stored) -> Result<Vec<u8>, AllocEr
 // What the header of an object says.
 fn said_by(number: u64, stored: Stored) -> Object {
     match stored {
-        Stored::Checkpoint(end) => without_row(3, number, end),
-        Stored::Copy(end) => without_row(2, number, end),
+        Stored::Checkpoint(end) => at_end(3, number, end, Content::Nothing),
+        Stored::Mapping(end, mapped) => at_end(3, number, end, Content::Maps(mapped)),
+        Stored::Copy(end) => at_end(2, number, end, Content::Nothing),
         Stored::Data(first, end) => data(UUID, number, first, end),
         Stored::Misnamed => data(UUID, number / 2, 0, 1),
         Stored::Foreign => data(OTHER, number, 0, 1),
@@ -140,14 +143,15 @@ fn said_by(number: u64, stored: Stored) -> Object {
     }
 }
 
-fn without_row(kind: u32, number: u64, end: u64) -> Object {
+// One that holds no entries.
+fn at_end(kind: u32, number: u64, end: u64, content: Content) -> Object {
     Object {
         kind,
         uuid: UUID,
         number,
         first: end,
         end,
-        has_row: false,
+        content,
     }
 }
 
@@ -158,6 +162,6 @@ fn data(uuid: [u8; 16], number: u64, first: u64, end: u64) -> Object {
         number,
         first,
         end,
-        has_row: true,
+        content: Content::Zeros,
     }
 }

@@ -11,7 +11,7 @@ use uuid::Uuid;
 use vol_mount::MountError;
 use vol_recover::CreateError;
 
-const REFUSALS: [Refusal; 13] = [
+const REFUSALS: [Refusal; 14] = [
     Refusal::NoVolume,
     Refusal::BadSuper {
         reason: BadSuper::BadEpoch { number: 4 },
@@ -29,6 +29,7 @@ const REFUSALS: [Refusal; 13] = [
         reason: BadObject::Seqs,
     },
     Refusal::NotData { number: 4 },
+    Refusal::MissingObject { number: 2 },
     Refusal::NoSlot { log: 9 },
     Refusal::StaleCache { cache: 1, store: 3 },
     Refusal::BadRecord {
@@ -71,6 +72,7 @@ const RECOVERIES: &[RecoverError] = &[
         reason: BadObject::Seqs,
     },
     RecoverError::NotData { number: 4 },
+    RecoverError::MissingObject { number: 2 },
     RecoverError::StoreFault,
     RecoverError::OutOfMemory,
 ];

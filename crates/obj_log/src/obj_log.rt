@@ -68,6 +68,7 @@ impl<R: Receipt> ObjLog<R> {
         ensures log { result.uploads.queue.maps.log.rows ≡ [] }
         ensures objects { result.uploads.queue.maps.objects.rows ≡ [] }
         ensures checkpoint { result.uploads.queue.maps.objects.checkpoint ≡ 0 }
+        ensures order { IsUploads result.uploads }
     {
         ObjLog {
             batch: Batch::new(alloc, geometry, end),

@@ -1,24 +1,32 @@
 -- A store keeps its stream while objects past it are removed.
-use Rattle.std.proofs.Common.{◌≡◌, ℕ, suc, ◌+◌, ◌-◌, ◌<◌, ◌≤◌, inl, inr, Option, List, [], ◌∷◌, length, get_or, sym, ◌∙◌, ap}
-use Rattle.std.proofs.Common.{subst, arith}
-use Rattle.std.specs.Prelude.{is_some}
+use Rattle.std.proofs.Common.{◌≡◌, ℕ, suc, ◌+◌, ◌-◌, ◌<◌, ◌≤◌, inl, inr, Option, Some, None, List, []}
+use Rattle.std.proofs.Common.{◌∷◌, length, get_or, refl, sym, ◌∙◌, ap, subst, arith}
+use Rattle.std.specs.Prelude.{is_some, option_map}
 use Rattle.std.proofs.lemmas.List.{length-take}
 use Rattle.lsvd_base.specs.declared.entry.Entry.{Entry}
+use Rattle.lsvd_base.specs.Image.{Image}
+use Rattle.extent_map.specs.Extents.{place_at}
 use Rattle.lsvd_objstore.specs.Objects.{Objects, found}
 use Rattle.object_format.specs.declared.expected.Expected.{Expected}
 use Rattle.object_format.specs.declared.rows.Rows.{Rows}
 use Rattle.object_format.specs.declared.rows.Rows.TheVariants as rows_of
+use Rattle.ckpt_format.specs.declared.place.StoredPlace.{StoredPlace}
+use Rattle.ckpt_format.specs.Places.{stored_on}
+use Rattle.object_stream.specs.declared.owner.Owner.{Owner}
 use Rattle.object_stream.specs.declared.object.Content.{Content}
 use Rattle.object_stream.specs.declared.object.Content.TheVariants as content
 use Rattle.object_stream.specs.declared.object.StreamObject.{StreamObject}
 use Rattle.object_stream.specs.Replay.{object_name}
 use Rattle.object_stream.specs.Stored.{HasContent, AreStored}
 use Rattle.object_stream.specs.Stream.{Owners, Stream, objects_to}
-use Rattle.object_stream.specs.Value.{StandsForSector}
-use Rattle.stopped_volume.specs.Objects.{landed_in, IsCheckpointOf}
+use Rattle.object_stream.specs.Value.{HasSector, StandsForSector}
+use Rattle.stopped_volume.specs.Expected.{expected_alone}
+use Rattle.stopped_volume.specs.Objects.{landed_in}
+use Rattle.stopped_volume.specs.Opening.{stored_owner, IsCheckpointOf, HoldPlaces, HasOpening}
 use Rattle.object_recovery.specs.Removal.{Removes}
 use Rattle.object_recovery.specs.Recovery.{HasDataUpTo, IsPastOf}
 use Rattle.object_recovery.specs.Laws.{RemovalKeepsStream}
+use Rattle.object_recovery.proofs.RowLemmas.{place_stands}
 
 -- what a data object has does not depend on the other objects
 content_kept : (old new : Objects) (uuid_at : ℕ → Option (List ℕ)) (kind : Content) (entries : List Entry) (rows : Rows)
@@ -33,7 +41,7 @@ content_kept old new uuid_at kind entries (rows_of.Copy list) payload is has =
 content_kept old new uuid_at kind entries rows_of.Checkpoint payload is has =
     absurd (subst (λ c. HasContent old uuid_at c entries rows_of.Checkpoint payload) is has)
 
-module _ (volume : Expected) (uuid_at : ℕ → Option (List ℕ)) (old new : Objects) (number : ℕ)
+module _ (volume : Expected) (uuid_at : ℕ → Option (List ℕ)) (old new : Objects) (number : ℕ) (alone : volume.ancestors ≡ 0)
     (removes : Removes (IsPastOf volume.uuid number) old new) where
   -- up to the number each object is as before
   kept_at : (at : ℕ) → at ≤ number → found new (object_name volume at) ≡ found old (object_name volume at)
@@ -42,16 +50,14 @@ module _ (volume : Expected) (uuid_at : ℕ → Option (List ℕ)) (old new : Ob
   landed_at : (at : ℕ) → at ≤ number → landed_in new volume at ≡ landed_in old volume at
   landed_at at to = ap is_some (kept_at at to)
 
-  checkpoint_kept : (at end : ℕ) (owned : Owners) → at ≤ number → IsCheckpointOf volume old at end owned
+  abbrev checkpoint_kept : (at end : ℕ) (owned : Owners) → at ≤ number → IsCheckpointOf volume old at end owned
       → IsCheckpointOf volume new at end owned
   checkpoint_kept at end owned to is = record {
     bytes = is.bytes;
     present = kept_at at to ∙ is.present;
-    header = is.header;
-    payload = is.payload;
-    parts = is.parts;
-    ends = is.ends;
-    none = is.none;
+    rows = is.rows;
+    is_checkpoint = is.is_checkpoint;
+    says = is.says;
   }
 
   -- a checkpoint that is there was there
@@ -63,12 +69,64 @@ module _ (volume : Expected) (uuid_at : ℕ → Option (List ℕ)) (old new : Ob
           | inl same ↦ sym same ∙ is.present
           | inr gone ↦ absurd (let present = is.present in cc)
         ];
-    header = is.header;
-    payload = is.payload;
-    parts = is.parts;
-    ends = is.ends;
-    none = is.none;
+    rows = is.rows;
+    is_checkpoint = is.is_checkpoint;
+    says = is.says;
   }
+
+  -- what its rows name is as before
+  abbrev sector_kept : (owner : Owner) (k : ℕ) (sector : List ℕ) → owner.number ≤ number → HasSector old uuid_at owner k sector
+      → HasSector new uuid_at owner k sector
+  sector_kept owner k sector to has = record {
+    expected = has.expected;
+    wide = has.wide;
+    level = has.level;
+    number = has.number;
+    bytes = has.bytes;
+    present =
+        removes.others (object_name has.expected owner.number) (λ past. absurd (omega (arith, past.1.1, to))) ∙ has.present;
+    header = has.header;
+    rows = has.rows;
+    payload = has.payload;
+    parts = has.parts;
+    has = has.has;
+  }
+
+  stands_kept : (place : Option StoredPlace) (k : ℕ) (sector : List ℕ)
+      → ((p : StoredPlace) → place ≡ Some p → p.number ≤ number)
+      → StandsForSector old uuid_at (option_map stored_owner place) k sector
+      → StandsForSector new uuid_at (option_map stored_owner place) k sector
+  stands_kept None k sector low stands = stands
+  stands_kept (Some p) k sector low stands = sector_kept (stored_owner p) k sector (low p refl) stands
+
+  opening_kept : (stream : Stream) (opening : Image) → stream.number ≤ number → HasOpening volume uuid_at old stream opening
+      → HasOpening volume uuid_at new stream opening
+  opening_kept stream opening to opens =
+      let checkpoint = opens.is.checkpoint in
+      let low : (k : ℕ) (place : StoredPlace) → place_at stored_on checkpoint.rows k ≡ Some place → place.number ≤ number =
+      λ k place at.
+      let stands = place_stands (expected_alone volume stream.number) checkpoint.rows k place
+      checkpoint.is_checkpoint.rows_are.all_stand at in
+      let own : place.level ≡ 0 = omega (arith, stands.level, alone) in
+      omega (arith, stands.number own, to) in
+      let hold : HoldPlaces new uuid_at checkpoint.rows =
+      λ k place at.
+      let was = opens.is.places k place at in
+      record {
+        numbered = was.numbered;
+        sector = was.sector;
+        has = sector_kept (stored_owner place) k was.sector (low k place at) was.has;
+        inside = was.inside;
+        at = was.at;
+      } in
+      record {
+        is = record { checkpoint = checkpoint_kept stream.number stream.end stream.opening to checkpoint; places = hold };
+        value = λ k sector at.
+            let says = checkpoint.says k in
+            subst (λ o. StandsForSector new uuid_at o k sector) (sym says)
+            (stands_kept (place_at stored_on checkpoint.rows k) k sector (low k)
+            (subst (λ o. StandsForSector old uuid_at o k sector) says (opens.value k sector at)));
+      }
 
   stored_kept : (at end : ℕ) (entries : List Entry) (list : List StreamObject) → at + length list ≤ number
       → ((k : ℕ) (d : StreamObject) → k < length list → (get_or list k d).content ≡ content.Data)
@@ -90,15 +148,18 @@ module _ (volume : Expected) (uuid_at : ℕ → Option (List ℕ)) (old new : Ob
             stored.1,
       )
 
-  stream_kept : (stream : Stream) → HasDataUpTo volume uuid_at old stream number → HasDataUpTo volume uuid_at new stream number
-  stream_kept stream has =
+  stream_kept : (stream : Stream) (opening : Image) → HasDataUpTo volume uuid_at old stream opening number
+      → HasDataUpTo volume uuid_at new stream opening number
+  stream_kept stream opening has =
       let stored = has.stored in
       let missing = stored.missing in
       let low : missing.base ≤ number = omega (arith, missing.above) in
       let size : stream.number + length (objects_to stream number) ≤ number =
       omega (arith, length-take (number - stream.number) stream.objects, stored.base, low) in
       record {
+        own = has.own;
         valid = has.valid;
+        sectors = has.sectors;
         stored = record {
           checkpoint = stored.checkpoint;
           checkpoints = λ at. (
@@ -125,11 +186,7 @@ module _ (volume : Expected) (uuid_at : ℕ → Option (List ℕ)) (old new : Ob
             least = λ at past below. landed_at at (omega (arith, below)) ∙ missing.least at past below;
           };
           base = stored.base;
-          based = checkpoint_kept stream.number stream.end stream.opening (omega (arith, low, stored.base)) stored.based;
-          value = λ k sector at.
-              let none = stored.based.none k in
-              subst (λ o. StandsForSector new uuid_at o k sector) (sym none)
-              (subst (λ o. StandsForSector old uuid_at o k sector) none (stored.value k sector at));
+          opens = opening_kept stream opening (omega (arith, low, stored.base)) stored.opens;
           last = stored.last;
           stored = stored_kept stream.number stream.end stream.entries (objects_to stream number) size has.hold_data
               stored.stored;
@@ -144,5 +201,5 @@ module _ (volume : Expected) (uuid_at : ℕ → Option (List ℕ)) (old new : Ob
       }
 
 pub removal_keeps_stream : RemovalKeepsStream
-removal_keeps_stream volume uuid_at old new stream number removes has =
-    stream_kept volume uuid_at old new number removes stream has
+removal_keeps_stream volume uuid_at old new stream opening number alone removes has =
+    stream_kept volume uuid_at old new number alone removes stream opening has

@@ -1,5 +1,5 @@
 -- The newest checkpoint of a store.
-use Rattle.std.proofs.Common.{◌≡◌, ℕ, ◌+◌, ◌*◌, ◌^◌, ◌<◌, inl, inr, Option, Some, None, List, length, drop, refl, sym, ◌∙◌, ap}
+use Rattle.std.proofs.Common.{◌≡◌, ℕ, ◌+◌, ◌^◌, ◌<◌, inl, inr, Option, Some, None, List, length, refl, sym, ◌∙◌, ap}
 use Rattle.std.proofs.Common.{subst, arith, rules}
 use Rattle.std.specs.Prelude.{IfSome, slice_index_or}
 use Rattle.std.specs.Option.{IsSome}
@@ -20,98 +20,80 @@ use Rattle.lsvd_names.specs.declared.name.ObjName.{ObjName}
 use Rattle.lsvd_names.specs.Names.{numbered_name}
 use Rattle.lsvd_objstore.specs.Objects.{Objects, name_cmp, found, Lists}
 use Rattle.lsvd_objstore.specs.Store.{ReceiptState, Finds}
+use Rattle.extent_map.specs.declared.extent.Extent.{Extent}
 use Rattle.object_format.specs.declared.expected.Expected.{Expected}
 use Rattle.object_format.specs.declared.header.Header.{Header}
 use Rattle.object_format.specs.declared.kind.Kind.TheVariants as kinds
-use Rattle.object_format.specs.declared.reason.BadObject as reason_type
-use Rattle.object_format.specs.declared.rows.Rows.TheVariants.{Checkpoint}
-use Rattle.object_format.specs.Layout.{front_sectors}
-use Rattle.object_format.specs.Object.{IsObject}
-use Rattle.object_format.specs.Tests.{IsObjectRefusedAs}
+use Rattle.object_format.specs.Header.{IsObjectHeader}
 use Rattle.object_format.proofs.ObjectLemmas.{same_header}
+use Rattle.ckpt_format.specs.declared.place.StoredPlace.{StoredPlace}
+use Rattle.ckpt_format.specs.Checkpoint.{checkpoint_header, IsCheckpoint}
 use Rattle.object_stream.specs.Stream.{Owners}
 use Rattle.object_stream.specs.Replay.{object_name}
-use Rattle.stopped_volume.specs.Objects.{expected_alone, IsCheckpointOf}
-use Rattle.object_recovery.specs.declared.error.RecoverError.{RecoverError}
-use Rattle.object_recovery.specs.declared.error.RecoverError.TheVariants as errors
-use Rattle.object_recovery.specs.Read.{AreFirstOf, IsReadHeader, IsWhyNotRead}
-use Rattle.object_recovery.specs.Checkpoints.{expected_of, IsEndOfCheckpoint, IsNoCheckpoint, IsCheckpointNamed, HasNoneFrom}
-use Rattle.object_recovery.specs.Checkpoints.{IsNewestWithEnd}
-use Rattle.object_recovery.proofs.ReadLemmas.{header_of_all, refused_is_none}
+use Rattle.stopped_volume.specs.Expected.{expected_alone}
+use Rattle.stopped_volume.specs.Opening.{IsCheckpointOf}
+use Rattle.object_recovery.specs.Read.{AreFirstOf, IsReadHeader}
+use Rattle.object_recovery.specs.Checkpoints.{expected_of, IsNoCheckpoint, ReadCheckpoint, IsStoredCheckpoint}
+use Rattle.object_recovery.specs.Checkpoints.{IsCheckpointNamed, HasNoneFrom, IsNewest, MayBeCheckpoint}
+use Rattle.object_recovery.proofs.ReadLemmas.{header_of_all}
 use Rattle.object_recovery.proofs.FindLemmas.{of_told, numbered}
+
+-- ---- by the bytes of an object
 
 -- an object whose header is that of another kind is no checkpoint
 pub other_kind : (receipt : ReceiptState) (expected : Expected) (bytes : List ℕ) (header : Header)
     → IsReadHeader receipt expected bytes header
-    → (header.kind ≡ kinds.Checkpoint → ⊥) → IfSome receipt.told (λ told. IsEndOfCheckpoint told receipt.size expected None)
+    → (header.kind ≡ kinds.Checkpoint → ⊥) → MayBeCheckpoint receipt expected None
 other_kind receipt expected bytes header is other = told_so receipt.told is.first
   where
     told_so : (told : Option (List ℕ)) → AreFirstOf told bytes
-        → IfSome told (λ all. IsEndOfCheckpoint all receipt.size expected None)
+        → IfSome told (λ all. receipt.size ≡ length all → (end : ℕ) (rows : List (Extent StoredPlace))
+        → IsCheckpoint all expected end rows → ⊥)
     told_so None first = tt
-    told_so (Some all) first = λ another object.
+    told_so (Some all) first = λ whole end rows checkpoint.
+        let another = checkpoint_header expected end (length rows) in
+        let head = subst (λ n. IsObjectHeader all n expected another) (sym whole) checkpoint.head in
         let same = same_header all receipt.size expected header another
-        (header_of_all all bytes first receipt.size expected header is.header_is) object.head in
-        other (ap (λ (h : Header). h.kind) same ∙ sym object.rows_are.kind)
+        (header_of_all all bytes first receipt.size expected header is.header_is) head in
+        other (ap (λ (h : Header). h.kind) same)
 
--- what is refused is none
-pub bad_checkpoint : (receipt : ReceiptState) (expected : Expected) (error : RecoverError) (number : ℕ)
-    (reason : reason_type.BadObject)
-    → error ≡ errors.BadObject number reason → IsWhyNotRead receipt expected error
-    → IfSome receipt.told (λ told. IsEndOfCheckpoint told receipt.size expected None)
-bad_checkpoint receipt expected error number reason is why = told_so receipt.told (subst (IsWhyNotRead receipt expected) is why).1
+-- bytes that are none are those of an object that is none
+pub bytes_are_none : (receipt : ReceiptState) (expected : Expected) (bytes : List ℕ)
+    → MayBeCheckpoint receipt expected (Some bytes)
+    → ((end : ℕ) (rows : List (Extent StoredPlace)) → IsCheckpoint bytes expected end rows → ⊥)
+    → MayBeCheckpoint receipt expected None
+bytes_are_none receipt expected bytes may none = told_so receipt.told may.1
   where
-    told_so : (told : Option (List ℕ)) → IfSome told (λ all. IsObjectRefusedAs all receipt.size expected reason)
-        → IfSome told (λ all. IsEndOfCheckpoint all receipt.size expected None)
-    told_so None refused = tt
-    told_so (Some all) refused = λ header object. refused_is_none all receipt.size expected reason refused header
-        Checkpoint object
+    told_so : (told : Option (List ℕ)) → IfSome told (λ all. receipt.size ≡ length all → bytes ≡ all)
+        → IfSome told (λ all. receipt.size ≡ length all → (end : ℕ) (rows : List (Extent StoredPlace))
+        → IsCheckpoint all expected end rows → ⊥)
+    told_so None is = tt
+    told_so (Some all) is = λ whole end rows checkpoint.
+        none end rows (subst (λ b. IsCheckpoint b expected end rows) (sym (is whole)) checkpoint)
 
--- ---- by the bytes of an object
+-- ---- in a store
+
+-- a receipt that was found has the name
+pub found_name : (name : ObjName) (told : Option Objects) (receipt : ReceiptState) → Finds name told (Some receipt)
+    → receipt.name ≡ name
+found_name name None receipt finds = finds
+found_name name (Some objects) receipt finds = finds.2.named
 
 -- what the bytes of an object say is so of the store that has it
-end_in_store : (geometry : Geometry) (objects : Objects) (name : ObjName) (bytes : List ℕ) (end : Option ℕ) → name.kind ≡ Object
-    → found objects (object_name (expected_of name.uuid geometry) name.number) ≡ Some bytes
-    → IsEndOfCheckpoint bytes (length bytes) (expected_alone (expected_of name.uuid geometry) name.number) end
-    → IsCheckpointNamed geometry objects name end
-end_in_store geometry objects name bytes None kind there is = λ same_kind end owned checkpoint.
-    let expected = expected_alone (expected_of name.uuid geometry) name.number in
-    let same : checkpoint.bytes ≡ bytes = let present = checkpoint.present in cc in
-    is checkpoint.header (subst (λ b. IsObject b (length b) expected checkpoint.header Checkpoint) same
-    checkpoint.parts.is_object)
-end_in_store geometry objects name bytes (Some end) kind there is = (
-  kind,
-  record {
-    bytes = bytes;
-    present = there;
-    header = is.0;
-    payload = drop (512 * front_sectors is.0) bytes;
-    parts = record { is_object = is.1; payload_is = refl };
-    ends = is.2;
-    none = λ k. refl;
-  },
-)
-
-pub checkpoint_found : (told : Option Objects) (name : ObjName) (geometry : Geometry) (receipt : ReceiptState) (end : Option ℕ)
+pub no_checkpoint_found : (told : Option Objects) (name : ObjName) (geometry : Geometry) (receipt : ReceiptState)
     → name.kind ≡ Object → Finds name told (Some receipt) → IsSome receipt.told
-    → IfSome receipt.told (λ bytes. IsEndOfCheckpoint bytes receipt.size
-    (expected_alone (expected_of name.uuid geometry) name.number) end)
-    → IfSome told (λ objects. IsCheckpointNamed geometry objects name end)
-checkpoint_found None name geometry receipt end kind finds some is = tt
-checkpoint_found (Some objects) name geometry receipt end kind finds some is =
-    let expected = expected_alone (expected_of name.uuid geometry) name.number in
-    end_in_store geometry objects name finds.0 end kind (ap (found objects) (sym (numbered name kind)) ∙ finds.1)
-    (of_told (λ bytes size. IsEndOfCheckpoint bytes size expected end) name finds.0 receipt finds.2 some is)
-
--- where no object is, there is no checkpoint
-pub checkpoint_absent : (told : Option Objects) (name : ObjName) (geometry : Geometry) → Finds name told None
+    → MayBeCheckpoint receipt (expected_alone (expected_of name.uuid geometry) name.number) None
     → IfSome told (λ objects. IsCheckpointNamed geometry objects name None)
-checkpoint_absent None name geometry finds = tt
-checkpoint_absent (Some objects) name geometry finds = λ kind end owned checkpoint.
-    let absent : found objects (object_name (expected_of name.uuid geometry) name.number) ≡ None =
-    ap (found objects) (sym (numbered name kind)) ∙ finds in
-    let present = checkpoint.present in
-    cc
+no_checkpoint_found None name geometry receipt kind finds some none = tt
+no_checkpoint_found (Some objects) name geometry receipt kind finds some none = λ same_kind end owned checkpoint.
+    let volume = expected_of name.uuid geometry in
+    let expected = expected_alone volume name.number in
+    let there : found objects (object_name volume name.number) ≡ Some finds.0 =
+    ap (found objects) (sym (numbered name kind)) ∙ finds.1 in
+    let same : checkpoint.bytes ≡ finds.0 = let present = checkpoint.present in cc in
+    of_told (λ bytes size. size ≡ length bytes → (end : ℕ) (rows : List (Extent StoredPlace))
+    → IsCheckpoint bytes expected end rows → ⊥) name finds.0 receipt finds.2 some none refl end checkpoint.rows
+    (subst (λ b. IsCheckpoint b expected end checkpoint.rows) same checkpoint.is_checkpoint)
 
 -- ---- among names
 
@@ -139,8 +121,7 @@ module _ (uuid : List ℕ) (geometry : Geometry) (objects : Objects) (names : Li
   is_listed : (number end : ℕ) (owned : Owners) → IsCheckpointOf volume objects number end owned
       → Contains names (object_name volume number)
   is_listed number end owned checkpoint =
-      let head = checkpoint.parts.is_object.head in
-      let fits : number < 2 ^ 64 = omega (arith, head.number, head.widths.number) in
+      let fits : number < 2 ^ 64 = checkpoint.is_checkpoint.head.widths.number in
       let there : IsSome (found objects (object_name volume number)) =
       subst (λ o. IsSome o) (sym checkpoint.present) (search rules) in
       listed.complete (object_name volume number) (record { uuid = is_uuid; number = tt; fits = fits }) refl there
@@ -157,49 +138,48 @@ module _ (uuid : List ℕ) (geometry : Geometry) (objects : Objects) (names : Li
         | inr from ↦ absurd (none at.0 (object_name volume number) from at.1 at.2 refl end owned checkpoint)
       ]
 
-  -- so the checkpoint before them is the newest
-  newest_at : (index : ℕ) (name : ObjName) (end : ℕ) → index < length names → slice_index_or names index name ≡ name
-      → name.kind ≡ Object
+  -- so none is newer than the one before them
+  newest_at : (index : ℕ) (name : ObjName) → index < length names → slice_index_or names index name ≡ name → name.kind ≡ Object
       → name.uuid ≡ uuid
-      → HasNoneFrom geometry objects names (index + 1) → IsCheckpointOf volume objects name.number end (λ k. None)
-      → IsNewestWithEnd volume objects name.number end
-  newest_at index name end inside at kind of_volume none is = record {
-    is = is;
-    newest = λ other other_end owned checkpoint.
-        let place = before_index (index + 1) none other other_end owned checkpoint in
-        let here : name ≡ object_name volume name.number = numbered name kind ∙ ap (λ u. numbered_name u name.number) of_volume in
-        elim (cases_lt place.0 index) [
-          | inl low ↦
-              let less = Less-from_sorted name_cmp names place.0 index name listed.ascending low inside in
-              let first : slice_index_or names place.0 name ≡ object_name volume other =
-              get_or_default names place.0 name (object_name volume other) place.2 ∙ place.3 in
-              let order : name_cmp (object_name volume other) (object_name volume name.number) ≡ Less =
-              ap (λ a. name_cmp a (object_name volume name.number)) (sym first)
-              ∙ ap (name_cmp (slice_index_or names place.0 name)) (sym (at ∙ here)) ∙ less in
-              omega (arith, name_order uuid other name.number order)
-          | inr from ↦
-              let same : place.0 ≡ index = omega (arith, place.1, from) in
-              let one : object_name volume other ≡ name =
-              sym place.3 ∙ ap (λ k. slice_index_or names k (object_name volume other)) same
-              ∙ get_or_default names index (object_name volume other) name inside
-              ∙ at in
-              omega (arith, ap (λ (n : ObjName). n.number) one)
-        ];
-  }
+      → HasNoneFrom geometry objects names (index + 1) → IsNewest volume objects name.number
+  newest_at index name inside at kind of_volume none other other_end owned checkpoint =
+      let place = before_index (index + 1) none other other_end owned checkpoint in
+      let here : name ≡ object_name volume name.number = numbered name kind ∙ ap (λ u. numbered_name u name.number) of_volume in
+      elim (cases_lt place.0 index) [
+        | inl low ↦
+            let less = Less-from_sorted name_cmp names place.0 index name listed.ascending low inside in
+            let first : slice_index_or names place.0 name ≡ object_name volume other =
+            get_or_default names place.0 name (object_name volume other) place.2 ∙ place.3 in
+            let order : name_cmp (object_name volume other) (object_name volume name.number) ≡ Less =
+            ap (λ a. name_cmp a (object_name volume name.number)) (sym first)
+            ∙ ap (name_cmp (slice_index_or names place.0 name)) (sym (at ∙ here)) ∙ less in
+            omega (arith, name_order uuid other name.number order)
+        | inr from ↦
+            let same : place.0 ≡ index = omega (arith, place.1, from) in
+            let one : object_name volume other ≡ name =
+            sym place.3 ∙ ap (λ k. slice_index_or names k (object_name volume other)) same
+            ∙ get_or_default names index (object_name volume other) name inside
+            ∙ at in
+            omega (arith, ap (λ (n : ObjName). n.number) one)
+      ]
 
 -- ---- where the store tells its objects
 
-pub found_newest : (told : Option Objects) (geometry : Geometry) (names : List ObjName) (index : ℕ) (name : ObjName) (end : ℕ)
+pub found_newest : (told : Option Objects) (geometry : Geometry) (names : List ObjName) (index : ℕ) (name : ObjName)
+    (checkpoint : ReadCheckpoint)
     → index < length names → slice_index_or names index name ≡ name
     → IfSome told (λ objects. HasNoneFrom geometry objects names (index + 1))
-    → IfSome told (λ objects. IsCheckpointNamed geometry objects name (Some end))
+    → IfSome told (λ objects. IsCheckpointNamed geometry objects name (Some checkpoint))
     → IfSome told (λ objects. (uuid : List ℕ) → IsUuid uuid → Lists uuid objects names
-    → IsNewestWithEnd (expected_of uuid geometry) objects name.number end)
-found_newest None geometry names index name end inside at none is = tt
-found_newest (Some objects) geometry names index name end inside at none is = λ uuid is_uuid listed.
-    let of_volume = (listed.present name (index, inside, at)).1 in
-    newest_at uuid geometry objects names is_uuid listed index name end inside at is.0 of_volume none
-    (subst (λ u. IsCheckpointOf (expected_of u geometry) objects name.number end (λ k. None)) of_volume is.1)
+    → IsStoredCheckpoint (expected_of uuid geometry) objects checkpoint
+    × IsNewest (expected_of uuid geometry) objects checkpoint.number)
+found_newest None geometry names index name checkpoint inside at none is = tt
+found_newest (Some objects) geometry names index name checkpoint inside at none is = λ uuid is_uuid listed.
+    let of_volume = (listed.present name (index, inside, at)).1 in (
+      subst (λ u. IsStoredCheckpoint (expected_of u geometry) objects checkpoint) of_volume is.2,
+      subst (IsNewest (expected_of uuid geometry) objects) (sym is.1)
+          (newest_at uuid geometry objects names is_uuid listed index name inside at is.0 of_volume none),
+    )
 
 pub none_more : (told : Option Objects) (geometry : Geometry) (names : List ObjName) (index : ℕ) (name : ObjName)
     → index < length names → slice_index_or names index name ≡ name

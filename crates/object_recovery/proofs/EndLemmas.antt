@@ -4,7 +4,7 @@ use Rattle.std.proofs.Common.{refl, sym, ◌∙◌, ap, subst, arith}
 use Rattle.std.specs.Prelude.{IsTrue, IfSome}
 use Rattle.std.specs.Option.{IsSomeAnd}
 use Rattle.std.proofs.lemmas.Bool.{cases_lt}
-use Rattle.lsvd_objstore.specs.Objects.{Objects}
+use Rattle.lsvd_objstore.specs.Objects.{Objects, found}
 use Rattle.lsvd_objstore.specs.Store.{ReceiptState}
 use Rattle.object_format.specs.declared.header.Header.{Header}
 use Rattle.object_format.specs.declared.expected.Expected.{Expected}
@@ -16,8 +16,14 @@ use Rattle.object_format.specs.Object.{IsObject}
 use Rattle.object_format.specs.Tests.{PassesObjectTest, IsObjectRefusedAs}
 use Rattle.object_format.proofs.ObjectLemmas.{same_header}
 use Rattle.object_format.proofs.TestLemmas.{header_in-IsHeader, header_passes}
-use Rattle.stopped_volume.specs.Objects.{expected_alone}
-use Rattle.object_recovery.specs.Judging.{IsEndOf, HasEnd, IsEndBefore, IsGoodObject, IsBadObject}
+use Rattle.extent_map.specs.declared.extent.Extent.{Extent}
+use Rattle.ckpt_format.specs.declared.place.StoredPlace.{StoredPlace}
+use Rattle.ckpt_format.specs.Checkpoint.{checkpoint_header, IsCheckpoint}
+use Rattle.object_stream.specs.Replay.{object_name}
+use Rattle.stopped_volume.specs.Expected.{expected_alone}
+use Rattle.stopped_volume.specs.Opening.{owned_by}
+use Rattle.object_recovery.specs.Checkpoints.{IsNewest}
+use Rattle.object_recovery.specs.Judging.{IsEndOf, EndsAt, HaveEnd, HasEnd, IsEndBefore, IsGoodObject, IsBadObject}
 use Rattle.object_recovery.specs.declared.error.RecoverError.TheVariants as errors
 use Rattle.object_recovery.specs.declared.reading.ReadObject.TheVariants as read
 use Rattle.object_recovery.specs.Read.{AreFirstOf, HasHead, IsReadHeader, IsWhyNotRead, IsToldRefused, IsToldEnd, IsReadOf}
@@ -175,23 +181,64 @@ bad_alone receipt expected reason end is = of_told receipt.told is.0
     of_told None refused = tt
     of_told (Some all) refused = refused_none all receipt.size expected reason refused
 
--- ---- one end
+-- ---- with the rows of a checkpoint
 
-pub one_end_of : (bytes : List ℕ) (size : ℕ) (expected : Expected) (a b : Option ℕ) → IsEndOf bytes size expected a
-    → IsEndOf bytes size expected b → a ≡ b
-one_end_of bytes size expected None None is_a is_b = refl
-one_end_of bytes size expected None (Some b) is_a is_b = absurd (is_a is_b.0 is_b.1 is_b.2)
-one_end_of bytes size expected (Some a) None is_a is_b = absurd (is_b is_a.0 is_a.1 is_a.2)
-one_end_of bytes size expected (Some a) (Some b) is_a is_b =
-    let same = same_header bytes size (expected_alone expected expected.number) is_a.0 is_b.0 is_a.2.head is_b.2.head in
-    ap Some (sym is_a.3 ∙ ap (λ (h : Header). h.end_seq) same ∙ is_b.3)
+-- the end is that of the header, with or without such rows
+end_in_header : (bytes : List ℕ) (expected : Expected) (end : ℕ) → EndsAt bytes expected end
+    → (header : Header) × IsObjectHeader bytes (length bytes) expected header × (header.end_seq ≡ end)
+end_in_header bytes expected end ends =
+    elim ends [
+      | inl object ↦ (object.0, object.2.head, object.3)
+      | inr checkpoint ↦ (checkpoint_header expected end (length checkpoint.0), checkpoint.1.head, refl)
+    ]
+
+-- so bytes have one end
+pub one_end_of : (bytes : List ℕ) (expected : Expected) (a b : Option ℕ) → HaveEnd bytes expected a → HaveEnd bytes expected b
+    → a ≡ b
+one_end_of bytes expected None None is_a is_b = refl
+one_end_of bytes expected None (Some b) is_a is_b = absurd (is_a b is_b)
+one_end_of bytes expected (Some a) None is_a is_b = absurd (is_b a is_a)
+one_end_of bytes expected (Some a) (Some b) is_a is_b =
+    let in_a = end_in_header bytes expected a is_a in
+    let in_b = end_in_header bytes expected b is_b in
+    let same = same_header bytes (length bytes) expected in_a.0 in_b.0 in_a.1 in_b.1 in
+    ap Some (sym in_a.2 ∙ ap (λ (h : Header). h.end_seq) same ∙ in_b.2)
+
+-- the end of bytes that are no checkpoint is that of an object without such rows
+end_of_other : (bytes : List ℕ) (expected : Expected) (end : Option ℕ)
+    → ((e : ℕ) (rows : List (Extent StoredPlace)) → IsCheckpoint bytes (expected_alone expected expected.number) e rows → ⊥)
+    → IsEndOf bytes (length bytes) expected end → HaveEnd bytes (expected_alone expected expected.number) end
+end_of_other bytes expected None none is = λ end ends.
+    elim ends [
+      | inl object ↦ is object.0 object.1 object.2
+      | inr checkpoint ↦ none end checkpoint.0 checkpoint.1
+    ]
+end_of_other bytes expected (Some end) none is = inl is
 
 module _ (volume : Expected) (objects : Objects) where
+  -- so is that of an object past the newest checkpoint
+  pub end_past : (base number : ℕ) (bytes : List ℕ) (before end : Option ℕ) → IsNewest volume objects base → base < number
+      → found objects (object_name volume number) ≡ Some bytes
+      → IsEndOf bytes (length bytes) (record volume { number = number; end_before = before }) end
+      → HasEnd volume objects number end
+  end_past base number bytes before end newest past there is =
+      let expected : Expected = record volume { number = number; end_before = before } in
+      record {
+        bytes = bytes;
+        present = there;
+        is_end =
+            end_of_other bytes expected end
+            (λ e rows checkpoint.
+            let low = newest number e (owned_by rows)
+            (record { bytes = bytes; present = there; rows = rows; is_checkpoint = checkpoint; says = λ k. refl }) in
+            omega (arith, low, past)) is;
+      }
+
   pub one_end_at : (number : ℕ) (a b : Option ℕ) → HasEnd volume objects number a → HasEnd volume objects number b → a ≡ b
   one_end_at number a b has_a has_b =
       let same : has_b.bytes ≡ has_a.bytes = let e = has_a.present in let f = has_b.present in cc in
-      let there = subst (λ bytes. IsEndOf bytes (length bytes) (expected_alone volume number) b) same has_b.is_end in
-      one_end_of has_a.bytes (length has_a.bytes) (expected_alone volume number) a b has_a.is_end there
+      let there = subst (λ bytes. HaveEnd bytes (expected_alone volume number) b) same has_b.is_end in
+      one_end_of has_a.bytes (expected_alone volume number) a b has_a.is_end there
 
   pub one_end_before : (last number : ℕ) (a b : Option ℕ) → IsEndBefore volume objects last number a
       → IsEndBefore volume objects last number b → a ≡ b

@@ -38,12 +38,6 @@ numbered name kind = ap (λ (k : NameKind). let other : ObjName = record { uuid 
 pub same_store : (old new : StoreState) → OnlyCounts old new → new.faults ≡ old.faults → new ≡ old
 same_store old new only same = only ∙ ap (λ (n : ℕ). let state : StoreState = record old { faults = n } in state) same
 
--- what an error is, what follows from it is
-pub error_so : {T E : Type 0} (P Q : E → Type 0) (outcome : Result T E) → ((error : E) → P error → Q error) → IfErr outcome P
-    → IfErr outcome Q
-error_so P Q (Ok value) so is = tt
-error_so P Q (Err error) so is = so error is
-
 pub ok_so : {T E : Type 0} (P Q : Type 0) (outcome : Result T E) → (P → Q) → OnOk outcome P → OnOk outcome Q
 ok_so P Q (Ok value) so is = so is
 ok_so P Q (Err error) so is = tt

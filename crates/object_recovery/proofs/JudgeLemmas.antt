@@ -25,7 +25,7 @@ use Rattle.object_recovery.specs.Judged.{judged_by, IsBadFor, IsJudged, IsJudged
 use Rattle.object_recovery.specs.Judged.{refused_with, StaysRefused}
 use Rattle.object_recovery.specs.Judged.{IsVerdict, IsReached}
 use Rattle.object_recovery.specs.Adoption.{IsWhyLeft, IsNotAdopted}
-use Rattle.object_recovery.proofs.EndLemmas.{before_next, end_of_object}
+use Rattle.object_recovery.proofs.EndLemmas.{before_next, end_of_object, end_past}
 use Rattle.object_recovery.proofs.FindLemmas.{of_told}
 
 -- ---- an object that was read
@@ -148,7 +148,8 @@ module _ (volume : Expected) (objects : Objects) where
 
     has_end : (end : Option ℕ) → IsEndOf bytes (length bytes) (expected_after volume at reached.end) end
         → HasEnd volume objects at end
-    has_end end is_end = record { bytes = bytes; present = there; is_end = is_end }
+    has_end end is_end =
+        end_past volume objects base at bytes reached.end end is.newest (omega (arith, is.from)) there is_end
 
     before_at : (last : ℕ) → at ≤ last → IsEndBefore volume objects last at reached.end
     before_at last to = before_next volume objects reached.number last reached.end to is.has_end
@@ -159,6 +160,7 @@ module _ (volume : Expected) (objects : Objects) where
         → IsBadFor (expected_after volume at reached.end) bytes bad
         → IsReached volume objects base (record { number = at; end = end; refused = refused_with at bad reached.refused })
     reached_next end bad is_end is_bad = record {
+      newest = is.newest;
       from = omega (arith, is.from);
       landed = landed;
       has_end = has_end end is_end;
@@ -210,6 +212,7 @@ module _ (volume : Expected) (objects : Objects) where
       reached_left =
           let same : at ≡ left.number = sym is_left.number in
           record {
+            newest = is.newest;
             from = omega (arith, is.from, same);
             landed = subst (HaveLanded objects volume base) same landed;
             has_end = subst (λ n. HasEnd volume objects n left.end) same (has_end left.end is_left.is_end);

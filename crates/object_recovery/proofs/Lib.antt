@@ -2,6 +2,15 @@ pub mod ReadLemmas
 pub mod EndLemmas
 pub mod FindLemmas
 pub mod CheckpointLemmas
+pub mod EarlierLemmas
+pub mod TakenLemmas
+pub mod PartLemmas
+pub mod RowLemmas
+pub mod MappedLemmas
+pub mod BegunLemmas
+pub mod ValueLemmas
+pub mod FinderLemmas
+pub mod BeginLemmas
 pub mod RemovalLemmas
 pub mod AdoptionLemmas
 pub mod JudgeLemmas

@@ -70,14 +70,14 @@ list_more uuid geometry number before end rows receipt old new is adopted =
 -- ---- the streams
 
 keeps_same : (volume : Expected) (objects : Objects) (log : ObjLogState) → KeepsStreams volume objects log log
-keeps_same volume objects log uuid_at stream number has from to list = (omega arith, to, list)
+keeps_same volume objects log uuid_at stream opening number has from to list = (omega arith, to, list)
 
 keeps_more : (volume : Expected) (objects : Objects) (a b c : ObjLogState) → KeepsStreams volume objects a b
     → KeepsStreams volume objects b c
     → KeepsStreams volume objects a c
-keeps_more volume objects a b c first second uuid_at stream number has from to list =
-    let mid = first uuid_at stream number has from to list in
-    let last = second uuid_at stream number has (omega (arith, from, mid.0)) mid.1 mid.2 in
+keeps_more volume objects a b c first second uuid_at stream opening number has from to list =
+    let mid = first uuid_at stream opening number has from to list in
+    let last = second uuid_at stream opening number has (omega (arith, from, mid.0)) mid.1 mid.2 in
     (omega (arith, mid.0, last.0), last.1, last.2)
 
 -- an object that is adopted, which the store has
@@ -87,18 +87,17 @@ adopted_keeps : (volume : Expected) (objects : Objects) (Tells : Type 0) (uuid :
     → expected_of_volume old ≡ volume → IsListUpTo uuid geometry old.uploads.window.last before old → Tells
     → AdoptsNext Tells (Some objects) old new
     → KeepsStreams volume objects old new
-adopted_keeps volume objects Tells uuid geometry before old new wide same_volume is tells adopts uuid_at stream number has
-    from to list =
+adopted_keeps volume objects Tells uuid geometry before old new wide same_volume is tells adopts uuid_at stream opening number
+    has from to list =
     let there = adopts.stored tells in
     let at = old.uploads.window.last in
     let last : new.uploads.window.last ≡ at + 1 = ap (λ (w : WindowState). w.last) adopts.adopted.uploads.window in
     let present : found objects (object_name volume (at + 1)) ≡ Some there.bytes =
     ap (λ (v : Expected). found objects (object_name v (at + 1))) (sym same_volume) ∙ there.present in
-    let below = missing_at volume uuid_at objects stream number wide has at there.bytes to present in
-    let more = one_more volume uuid_at objects stream number wide has at from below old new adopts.rows adopts.end adopts.receipt
-    same_volume refl is.sealed is.entries
-    adopts.order adopts.adopted list there in
-    (omega (arith, last), omega (arith, last, below), subst (λ n. HasStreamTo volume.sectors stream n new) (sym last) more)
+    let below = missing_at volume uuid_at objects stream opening number wide has at there.bytes to present in
+    let more = one_more volume uuid_at objects stream opening number wide has at from below old new adopts.rows adopts.end
+    adopts.receipt same_volume refl is.sealed is.entries adopts.order adopts.adopted list there in
+    (omega (arith, last), omega (arith, last, below), subst (λ n. HasStreamTo opening stream n new) (sym last) more)
 
 -- so it is where the store tells its objects
 pub told_more : (told : Option Objects) (volume : Expected) (Tells : Type 0) (uuid : List ℕ) (geometry : Geometry) (before : ℕ)

@@ -1,18 +1,22 @@
 -- What comes of a recovery, by what was adopted and how the others were judged.
-use Rattle.std.proofs.Common.{◌≡◌, ℕ, ◌+◌, ◌-◌, ◌^◌, ◌<◌, ◌≤◌, inl, inr, false, Option, Some, None, List, length, refl, sym, ◌∙◌}
+use Rattle.std.proofs.Common.{◌≡◌, ℕ, ◌+◌, ◌-◌, ◌^◌, ◌<◌, ◌≤◌, inl, inr, Option, Some, None, List, length, refl, sym}
 use Rattle.std.proofs.Common.{ap, subst, arith}
-use Rattle.std.specs.Prelude.{Err, IfSome}
+use Rattle.std.specs.Prelude.{Result, Ok, Err, IfSome}
 use Rattle.lsvd_base.specs.declared.geometry.Geometry.{Geometry}
 use Rattle.lsvd_fault.specs.Faults.{Counts}
 use Rattle.lsvd_names.specs.declared.name.ObjName.{ObjName}
 use Rattle.lsvd_objstore.specs.declared.error.StoreError.{StoreError}
 use Rattle.lsvd_objstore.specs.declared.error.StoreError.TheVariants as store
 use Rattle.lsvd_objstore.specs.Objects.{Objects, found, Lists}
-use Rattle.lsvd_objstore.specs.Store.{has_failed}
+use Rattle.lsvd_objstore.specs.Store.{StoreState, has_failed}
 use Rattle.object_format.specs.declared.expected.Expected.{Expected}
-use Rattle.object_format.specs.declared.rows.Rows.TheVariants.{Checkpoint}
 use Rattle.object_stream.specs.Replay.{object_name}
-use Rattle.stopped_volume.specs.Objects.{expected_alone, IsWhole}
+use Rattle.extent_map.specs.declared.extent.Extent.{Extent}
+use Rattle.ckpt_format.specs.declared.place.StoredPlace.{StoredPlace}
+use Rattle.ckpt_format.specs.Checkpoint.{IsCheckpoint}
+use Rattle.stopped_volume.specs.Expected.{expected_alone}
+use Rattle.stopped_volume.specs.Objects.{IsWhole}
+use Rattle.stopped_volume.specs.Opening.{owned_by}
 use Rattle.upload_window.specs.Window.{WindowState}
 use Rattle.obj_log.specs.State.{ObjLogState}
 use Rattle.obj_log.specs.Changes.{expected_of_volume, next_of}
@@ -20,18 +24,23 @@ use Rattle.object_recovery.specs.declared.error.RecoverError.{RecoverError}
 use Rattle.object_recovery.specs.declared.judging.Reached.{Reached}
 use Rattle.object_recovery.specs.declared.judging.ObjectRefusal.{ObjectRefusal}
 use Rattle.object_recovery.specs.declared.judging.ObjectRefusal.TheVariants as refusals
-use Rattle.object_recovery.specs.Checkpoints.{expected_of, IsNewestWithEnd}
-use Rattle.object_recovery.specs.Faults.{of_store, of_refusal, is_store_fault, IsNoAnswer}
+use Rattle.object_recovery.specs.Beginning.{HasValue, BeginsList}
+use Rattle.object_recovery.specs.Checkpoints.{expected_of, ReadCheckpoint, IsStoredCheckpoint, IsNewest, IsNewestWithEnd}
+use Rattle.object_recovery.specs.declared.error.RecoverError.TheVariants as errors
+use Rattle.object_recovery.specs.Faults.{of_store, of_refusal, refusal_or_missing, is_store_fault, IsNoAnswer}
 use Rattle.object_recovery.specs.Judging.{IsRun}
-use Rattle.object_recovery.specs.Judged.{IsVerdict, IsReached, IsGap, JudgesPast, StaysRefused}
+use Rattle.object_recovery.specs.Judged.{IsVerdict, IsReached, IsGap, GoesToGap, JudgesPast, StaysRefused}
 use Rattle.object_recovery.specs.Adoption.{IsWhyLeft, HasEndedAt, KeepsGood, reached_by, ReachesGap, JudgesRest, RefusesRest}
-use Rattle.object_recovery.specs.Adoption.{IsRecoveryBegun}
+use Rattle.object_recovery.specs.Adoption.{IsRecoveryBegun, RefusesBeside, HasGoneOn, GoesOnWith, StopsWith}
+use Rattle.object_recovery.specs.Adoption.{GoesOnOf, RecoverListOf}
+use Rattle.object_recovery.specs.Missing.{IsMissing}
+use Rattle.object_recovery.specs.Places.{HasPlacesInside}
 use Rattle.object_recovery.specs.Recovery.{IsListUpTo, KeepsStreams, AreAllGood, AreNamedWholePast, IsWhyObjectsRefused}
-use Rattle.object_recovery.specs.Recovery.{IsRecoveryRefused}
+use Rattle.object_recovery.specs.Recovery.{IsRefusal, IsRecoveryRefused}
 use Rattle.object_recovery.specs.Recovering.{Recovers}
 use Rattle.object_recovery.proofs.EndLemmas.{alone_object}
 use Rattle.object_recovery.proofs.ListLemmas.{left_good}
-use Rattle.object_recovery.proofs.RecoverLemmas.{IsNewList, stream_to, is_recovered}
+use Rattle.object_recovery.proofs.RecoverLemmas.{IsBegun, stream_to, is_recovered}
 use Rattle.object_recovery.proofs.RefusalLemmas.{volume_is, is_refused, no_answer_refused}
 
 -- all objects past a checkpoint were judged
@@ -43,37 +52,43 @@ pub record AreJudged (volume : Expected) (objects : Objects) (base : ℕ) (refus
 module _ (volume : Expected) (objects : Objects) (base base_end : ℕ) (newest : IsNewestWithEnd volume objects base base_end) where
   -- ---- where it begins
 
-  at_base : IsReached volume objects base (record { number = base; end = Some base_end; refused = None })
+  pub at_base : IsReached volume objects base (record { number = base; end = Some base_end; refused = None })
   at_base =
       let is = newest.is in
       record {
+        newest = newest.newest;
         from = omega arith;
         landed = λ number past to. absurd (omega (arith, past, to));
-        has_end = record {
-          bytes = is.bytes;
-          present = is.present;
-          is_end = (is.header, Checkpoint, is.parts.is_object, is.ends);
-        };
+        has_end = record { bytes = is.bytes; present = is.present; is_end = inr (is.rows, is.is_checkpoint) };
         verdict = λ last to number bytes such fits there. absurd (omega (arith, such.0, such.1));
       }
 
-  pub begun_reached : (uuid : List ℕ) (geometry : Geometry) (begun : ObjLogState) → IsNewList uuid geometry base base_end begun
-      → IsReached volume objects base (reached_by begun)
-  begun_reached uuid geometry begun new =
-      let last : base ≡ begun.uploads.window.last = sym (ap (λ (w : WindowState). w.last) new.list.window) in
+  pub begun_reached : (uuid : List ℕ) (geometry : Geometry) (begun : ObjLogState)
+      → IsListUpTo uuid geometry base base_end begun → IsReached volume objects base (reached_by begun)
+  begun_reached uuid geometry begun list =
+      let last : base ≡ begun.uploads.window.last = sym (ap (λ (w : WindowState). w.last) list.window) in
       let At : ℕ → ℕ → Reached = λ n e. record { number = n; end = Some e; refused = None } in
       subst (λ n. IsReached volume objects base (At n begun.uploads.queue.end)) last
-      (subst (λ e. IsReached volume objects base (At base e)) (sym new.list.end_is) at_base)
+      (subst (λ e. IsReached volume objects base (At base e)) (sym list.end_is) at_base)
 
   -- ---- how it ends
+
+  is_run : (gap : Reached) → IsReached volume objects base gap → IsGap volume objects gap → IsRun volume objects base gap.number
+  is_run gap is missing = record { end = base_end; newest = newest; from = is.from; landed = is.landed; missing = missing }
+
+  -- where all past it were judged
+  pub beside_judged : (gap : Reached) (names : List ObjName) (refused : Option ObjectRefusal)
+      → Lists volume.uuid objects names
+      → GoesToGap volume objects (record { number = base; end = Some base_end; refused = None }) gap
+      → JudgesPast volume objects names gap refused → AreJudged volume objects base refused
+  beside_judged gap names refused listed goes past =
+      let there = goes.reached base at_base in
+      record { last = gap.number; run = is_run gap there goes.missing; verdict = past base listed there }
 
   module _ (log : ObjLogState) (same_volume : expected_of_volume log ≡ volume) (uuid : List ℕ) (geometry : Geometry)
       (list : IsListUpTo uuid geometry log.uploads.window.last log.uploads.queue.end log)
       (reached : IsReached volume objects base (reached_by log)) (names : List ObjName)
       (listed : Lists volume.uuid objects names) where
-    is_run : (gap : Reached) → IsReached volume objects base gap → IsGap volume objects gap → IsRun volume objects base gap.number
-    is_run gap is missing = record { end = base_end; newest = newest; from = is.from; landed = is.landed; missing = missing }
-
     gap_reached : (left : Option Reached) (gap : Reached) → HasEndedAt objects log left → ReachesGap volume objects log left gap
         → IsReached volume objects base gap × IsGap volume objects gap
     gap_reached None gap ended reaches =
@@ -143,84 +158,194 @@ module _ (volume : Expected) (objects : Objects) (base : ℕ) where
 
 -- ---- a recovery
 
-module _ (uuid : List ℕ) (geometry : Geometry) (base end : ℕ) (begun log : ObjLogState) (names : List ObjName)
-    (left : Option Reached)
-    (wide : geometry.sectors < 2 ^ 64) (new : IsNewList uuid geometry base end begun)
-    (list : IsListUpTo uuid geometry log.uploads.window.last log.uploads.queue.end log) (objects : Objects)
-    (streams : KeepsStreams (expected_of_volume begun) objects begun log)
-    (good : KeepsGood (expected_of_volume begun) objects begun log)
-    (ended : HasEndedAt objects log left) (from : IsRecoveryBegun uuid geometry base end names objects) where
+-- the checkpoint that a recovery begins at is the newest, with these rows
+abbrev newest_of : (volume : Expected) (objects : Objects) (base : ReadCheckpoint) (rows : List (Extent StoredPlace))
+    → IsCheckpoint base.bytes (expected_alone volume base.number) base.end rows → IsStoredCheckpoint volume objects base
+    → IsNewest volume objects base.number → IsNewestWithEnd volume objects base.number base.end
+newest_of volume objects base rows is stored newest = record {
+  owned = owned_by rows;
+  is = record {
+    bytes = base.bytes;
+    present = stored.present;
+    rows = rows;
+    is_checkpoint = is;
+    says = λ k. refl;
+  };
+  newest = newest;
+}
+
+module _ (uuid : List ℕ) (geometry : Geometry) (base : ReadCheckpoint) (rows : List (Extent StoredPlace))
+    (names : List ObjName) (wide : geometry.sectors < 2 ^ 64)
+    (is : IsCheckpoint base.bytes (expected_alone (expected_of uuid geometry) base.number) base.end rows) where
   abbrev volume : Expected
   volume = expected_of uuid geometry
 
-  begun_volume : expected_of_volume begun ≡ volume
-  begun_volume = volume_is uuid geometry base end begun new
+  abbrev newest_at : (objects : Objects) → IsRecoveryBegun uuid geometry base names objects
+      → IsNewestWithEnd volume objects base.number base.end
+  newest_at objects from = newest_of volume objects base rows is from.stored from.newest
 
-  -- the volume of the list
-  log_volume : expected_of_volume log ≡ volume
-  log_volume = ap (λ (u : List ℕ). expected_of u log.batch.geometry) list.uuid_is ∙ ap (expected_of uuid) list.geometry_is
+  -- ---- beside an object that its rows name and that is not there
 
-  log_reached : IsReached volume objects base (reached_by log)
-  log_reached =
-      (subst (λ v. KeepsGood v objects begun log) begun_volume good) base
-      (begun_reached volume objects base end from.newest uuid geometry begun new)
+  beside_of : (objects : Objects) (missing : ℕ) (refused : Option ObjectRefusal)
+      → IsMissing volume objects rows missing → IsRecoveryBegun uuid geometry base names objects
+      → AreJudged volume objects base.number refused
+      → IsRecoveryRefused volume objects (refusal_or_missing missing refused)
+  beside_of objects missing None lacks from judged =
+      let newest = newest_at objects from in
+      is_refused volume objects wide (errors.MissingObject missing) (record {
+        base = base.number;
+        end = base.end;
+        owned = owned_by rows;
+        checkpoint = newest.is;
+        newest = newest.newest;
+        good = all_good volume objects base.number judged;
+        missing = lacks;
+      })
+  beside_of objects missing (Some refusal) lacks from judged =
+      is_refused volume objects wide (of_refusal refusal) (why_refused volume objects base.number refusal judged)
 
-  judged : (refused : Option ObjectRefusal) → JudgesRest objects log names left refused → AreJudged volume objects base refused
-  judged refused rest = are_judged volume objects base end from.newest log log_volume uuid geometry list log_reached names
-      from.listed left refused ended rest
+  beside : (objects : Objects) (missing : ℕ) (error : RecoverError) → IsMissing volume objects rows missing
+      → RefusesBeside volume objects (record { number = base.number; end = Some base.end; refused = None }) names missing error
+      → IsRecoveryBegun uuid geometry base names objects → IsRecoveryRefused volume objects error
+  beside objects missing error lacks refuses from =
+      let judged = beside_judged volume objects base.number base.end (newest_at objects from) refuses.0 names refuses.1
+      from.listed refuses.2 refuses.3 in
+      subst (IsRecoveryRefused volume objects) (sym refuses.4) (beside_of objects missing refuses.1 lacks from judged)
 
-  recovers : JudgesRest objects log names left None → Recovers volume base objects log
-  recovers rest = record {
-    checkpoint = (end, from.newest);
-    recovered = λ low.
-        let absent = none_next volume objects base end from.newest log log_volume uuid geometry list log_reached names from.listed
-        left ended rest low in
-        is_recovered volume objects base end wide from.newest uuid geometry begun log new
-        (subst (λ v. KeepsStreams v objects begun log) begun_volume streams) list log_reached.from log_reached.landed absent;
-    no_longer = λ uuid_at stream number has.
-        (stream_to volume objects base end wide from.newest uuid_at stream number has uuid geometry begun log new
-        (subst (λ v. KeepsStreams v objects begun log) begun_volume streams)).1;
-    landed = log_reached.landed;
-    good = all_good volume objects base (judged None rest);
-    past = whole_past volume objects base log.uploads.window.last log_reached.from (judged None rest);
-  }
+  pub told_beside : (told : Option Objects) (missing : ℕ) (error : RecoverError)
+      → IfSome told (λ objects. Lists uuid objects names → (end : ℕ) (others : List (Extent StoredPlace))
+      → IsCheckpoint base.bytes (expected_alone volume base.number) end others → IsMissing volume objects others missing)
+      → IfSome told (λ objects. RefusesBeside volume objects
+      (record { number = base.number; end = Some base.end; refused = None }) names missing error)
+      → IfSome told (λ objects. IsRecoveryBegun uuid geometry base names objects → IsRecoveryRefused volume objects error)
+  told_beside None missing error lacks refuses = tt
+  told_beside (Some objects) missing error lacks refuses = λ from.
+      beside objects missing error (lacks from.listed base.end rows is) refuses from
 
-  refuses : (error : RecoverError) → RefusesRest objects log names left error → IsRecoveryRefused volume objects error
-  refuses error refused =
-      elim refused [
-        | inl none ↦ no_answer_refused volume objects error none
-        | inr is ↦
-            subst (IsRecoveryRefused volume objects) (sym is.1)
-            (is_refused volume objects wide (of_refusal is.0) (why_refused volume objects base is.0 (judged (Some is.0) is.2)))
-      ]
+  -- ---- where a list begins with them
 
--- ---- where the store tells its objects
+  -- what the list has once it has begun, where the store tells its objects
+  abbrev pub HasValueOf : ObjLogState → Objects → Type 0
+  HasValueOf begun objects = Lists uuid objects names → IsStoredCheckpoint volume objects base
+      → HasValue volume objects rows begun
 
-module _ (uuid : List ℕ) (geometry : Geometry) (base end : ℕ) (begun log : ObjLogState) (names : List ObjName)
-    (left : Option Reached)
-    (wide : geometry.sectors < 2 ^ 64) (new : IsNewList uuid geometry base end begun)
-    (list : IsListUpTo uuid geometry log.uploads.window.last log.uploads.queue.end log) where
-  pub told_recovers : (told : Option Objects) → IfSome told (λ objects. KeepsStreams (expected_of_volume begun) objects begun log)
-      → IfSome told (λ objects. KeepsGood (expected_of_volume begun) objects begun log)
-      → IfSome told (λ objects. HasEndedAt objects log left)
-      → IfSome told (λ objects. JudgesRest objects log names left None)
-      → IfSome told (λ objects. IsRecoveryBegun uuid geometry base end names objects
-      → Recovers (expected_of uuid geometry) base objects log)
-  told_recovers None streams good ended rest = tt
-  told_recovers (Some objects) streams good ended rest = λ from.
-      recovers uuid geometry base end begun log names left wide new list objects streams good ended from rest
+  -- a list that goes on is one of the same uuid and the same sizes
+  list_after : (begun log : ObjLogState) → BeginsList uuid geometry base rows begun
+      → IsListUpTo begun.uploads.uuid begun.batch.geometry log.uploads.window.last log.uploads.queue.end log
+      → IsListUpTo uuid geometry log.uploads.window.last log.uploads.queue.end log
+  list_after begun log begins list =
+      subst (λ u. IsListUpTo u geometry log.uploads.window.last log.uploads.queue.end log) begins.list.uuid_is
+      (subst (λ sizes. IsListUpTo begun.uploads.uuid sizes log.uploads.window.last log.uploads.queue.end log)
+      begins.list.geometry_is list)
 
-  pub told_refuses : (told : Option Objects) (error : RecoverError)
-      → IfSome told (λ objects. KeepsStreams (expected_of_volume begun) objects begun log)
-      → IfSome told (λ objects. KeepsGood (expected_of_volume begun) objects begun log)
-      → IfSome told (λ objects. HasEndedAt objects log left)
-      → IfSome told (λ objects. RefusesRest objects log names left error)
-      → IfSome told (λ objects. IsRecoveryBegun uuid geometry base end names objects
-      → IsRecoveryRefused (expected_of uuid geometry) objects error)
-  told_refuses None error streams good ended refused = tt
-  told_refuses (Some objects) error streams good ended refused = λ from.
-      refuses uuid geometry base end begun log names left wide new list objects streams good ended from error refused
+  module _ (begun log : ObjLogState) (begins : BeginsList uuid geometry base rows begun) (objects : Objects)
+      (value : HasValueOf begun objects) (left : Option Reached) (gone : HasGoneOn objects begun log left)
+      (from : IsRecoveryBegun uuid geometry base names objects) where
+    list : IsListUpTo uuid geometry log.uploads.window.last log.uploads.queue.end log
+    list = list_after begun log begins gone.list
 
+    abbrev newest : IsNewestWithEnd volume objects base.number base.end
+    newest = newest_at objects from
+
+    begun_volume : expected_of_volume begun ≡ volume
+    begun_volume = volume_is uuid geometry base.number base.end begun begins.list
+
+    log_volume : expected_of_volume log ≡ volume
+    log_volume = volume_is uuid geometry log.uploads.window.last log.uploads.queue.end log list
+
+    begun_at : IsBegun volume objects uuid geometry rows base.number base.end begun
+    begun_at = record {
+      list = begins.list;
+      order = begins.order;
+      owners_are = begins.owners_are;
+      value = value from.listed from.stored;
+    }
+
+    kept : KeepsStreams volume objects begun log
+    kept = subst (λ v. KeepsStreams v objects begun log) begun_volume gone.streams
+
+    log_reached : IsReached volume objects base.number (reached_by log)
+    log_reached =
+        (subst (λ v. KeepsGood v objects begun log) begun_volume gone.good) base.number
+        (begun_reached volume objects base.number base.end newest uuid geometry begun begins.list)
+
+    judged : (refused : Option ObjectRefusal) → JudgesRest objects log names left refused
+        → AreJudged volume objects base.number refused
+    judged refused rest = are_judged volume objects base.number base.end newest log log_volume uuid geometry list log_reached
+        names from.listed left refused gone.ended rest
+
+    recovers : JudgesRest objects log names left None → Recovers volume base.number objects log
+    recovers rest = record {
+      checkpoint = (base.end, newest);
+      recovered = λ low.
+          let absent = none_next volume objects base.number base.end newest log log_volume uuid geometry list log_reached names
+          from.listed left gone.ended rest low in
+          is_recovered volume objects base.number base.end wide newest uuid geometry begun log begun_at kept list log_reached.from
+          log_reached.landed absent;
+      no_longer = λ uuid_at stream opening number has.
+          (stream_to volume objects base.number base.end wide newest uuid_at stream opening number has uuid geometry begun log
+          begun_at kept).1;
+      landed = log_reached.landed;
+      good = all_good volume objects base.number (judged None rest);
+      past = whole_past volume objects base.number log.uploads.window.last log_reached.from (judged None rest);
+    }
+
+    refuses : (error : RecoverError) → RefusesRest objects log names left error → IsRecoveryRefused volume objects error
+    refuses error refused =
+        elim refused [
+          | inl none ↦ no_answer_refused volume objects error none
+          | inr is ↦
+              subst (IsRecoveryRefused volume objects) (sym is.1)
+              (is_refused volume objects wide (of_refusal is.0)
+              (why_refused volume objects base.number is.0 (judged (Some is.0) is.2)))
+        ]
+
+  -- ---- where the store tells its objects
+
+  module _ (begun : ObjLogState) (begins : BeginsList uuid geometry base rows begun) where
+    told_recovers : (told : Option Objects) (log : ObjLogState) → IfSome told (HasValueOf begun)
+        → IfSome told (λ objects. GoesOnWith objects names begun log)
+        → IfSome told (λ objects. IsRecoveryBegun uuid geometry base names objects → Recovers volume base.number objects log)
+    told_recovers None log value goes = tt
+    told_recovers (Some objects) log value goes = λ from. recovers begun log begins objects value goes.0 goes.1 from goes.2
+
+    told_refuses : (told : Option Objects) (error : RecoverError) → IfSome told (HasValueOf begun)
+        → IfSome told (λ objects. StopsWith objects names begun error)
+        → IfSome told (λ objects. IsRecoveryBegun uuid geometry base names objects → IsRecoveryRefused volume objects error)
+    told_refuses None error value stops = tt
+    told_refuses (Some objects) error value stops = λ from.
+        elim stops [
+          | inl none ↦ no_answer_refused volume objects error none
+          | inr is ↦ refuses begun is.0 begins objects value is.1 is.2 from error is.3
+        ]
+
+    -- how the list goes on, the recovery ends
+    pub recovers_so : (Tells : Type 0) (old new : StoreState) (result : Result ObjLogState RecoverError)
+        → (Tells → IfSome old.objects (HasValueOf begun)) → GoesOnOf Tells begun names old new result
+        → RecoverListOf Tells uuid geometry base names old new result
+    recovers_so Tells old new (Ok log) value goes = record {
+      list = list_after begun log begins goes.list;
+      from = subst (λ n. n ≤ log.uploads.window.last) (ap (λ (w : WindowState). w.last) begins.list.window) goes.from;
+      order = goes.order;
+      places =
+          subst (λ (sizes : Geometry). HasPlacesInside sizes.sectors log.uploads.queue) begins.list.geometry_is goes.places;
+      recovers = λ tells. told_recovers old.objects log (value tells) (goes.goes_on tells);
+      refused = λ tells. tt;
+      unchanged = goes.unchanged;
+      faults = goes.faults;
+    }
+    recovers_so Tells old new (Err error) value goes = record {
+      list = tt;
+      from = tt;
+      order = tt;
+      places = tt;
+      recovers = λ tells. tt;
+      refused = λ tells. told_refuses old.objects error (value tells) (goes.refused tells);
+      unchanged = goes.unchanged;
+      faults = goes.faults;
+    }
+
+-- where a call of the store failed, or memory ran out, nothing is refused
 pub told_failed : (told : Option Objects) (volume : Expected) (Begun : Objects → Type 0) (error : RecoverError) → IsNoAnswer error
     → IfSome told (λ objects. Begun objects → IsRecoveryRefused volume objects error)
 told_failed None of_volume Begun error none = tt
@@ -236,15 +361,18 @@ pub store_counts : (T : Type 0) (error : StoreError) (old new : ℕ) → Counts 
 store_counts T store.Failed old new counts = counts
 store_counts T store.OutOfMemory old new counts = counts
 
-pub told_no_answer : (told : Option Objects) (of_volume : Expected) (error : RecoverError) → IsNoAnswer error
-    → IfSome told (λ objects. IsRecoveryRefused of_volume objects error)
-told_no_answer None of_volume error none = tt
-told_no_answer (Some objects) of_volume error none = no_answer_refused of_volume objects error none
+-- an error by which an object is refused refuses what the store has, and is no fault
+pub refusal_is_one : (refusal : ObjectRefusal) (error : RecoverError) → error ≡ of_refusal refusal → IsRefusal error
+refusal_is_one (refusals.Bad number reason) error is = subst IsRefusal (sym is) tt
+refusal_is_one (refusals.NotData number) error is = subst IsRefusal (sym is) tt
 
--- a refusal is no fault
-pub no_fault : (refusal : ObjectRefusal) → is_store_fault (of_refusal refusal) ≡ false
-no_fault (refusals.Bad number reason) = refl
-no_fault (refusals.NotData number) = refl
+pub refusal_counts : (error : RecoverError) (old new : ℕ) → IsRefusal error → new ≡ old → Counts (is_store_fault error) old new
+refusal_counts errors.NoCheckpoint old new is same = same
+refusal_counts (errors.BadObject number reason) old new is same = same
+refusal_counts (errors.NotData number) old new is same = same
+refusal_counts (errors.MissingObject number) old new is same = same
+refusal_counts errors.StoreFault old new is same = absurd is
+refusal_counts errors.OutOfMemory old new is same = absurd is
 
 pub told_rest : (told : Option Objects) (log : ObjLogState) (volume : Expected) (names : List ObjName) (left : Option Reached)
     (gap : Reached)
@@ -268,10 +396,46 @@ pub told_refusal :
 told_refusal None log names left refusal error same rest = tt
 told_refusal (Some objects) log names left refusal error same rest = inr (refusal, same, rest)
 
-pub told_begun : (told : Option Objects) (uuid : List ℕ) (geometry : Geometry) (base end : ℕ) (names : List ObjName)
-    (P : Objects → Type 0)
-    → IfSome told (λ objects. IsNewestWithEnd (expected_of uuid geometry) objects base end)
-    → IfSome told (λ objects. Lists uuid objects names)
-    → IfSome told (λ objects. IsRecoveryBegun uuid geometry base end names objects → P objects) → IfSome told P
-told_begun None uuid geometry base end names P newest listed so = tt
-told_begun (Some objects) uuid geometry base end names P newest listed so = so (record { newest = newest; listed = listed })
+-- a list went on, where all past it were judged
+pub told_goes_on : (told : Option Objects) (names : List ObjName) (begun log : ObjLogState) (left : Option Reached)
+    → IsListUpTo begun.uploads.uuid begun.batch.geometry log.uploads.window.last log.uploads.queue.end log
+    → IfSome told (λ objects. KeepsStreams (expected_of_volume begun) objects begun log)
+    → IfSome told (λ objects. KeepsGood (expected_of_volume begun) objects begun log)
+    → IfSome told (λ objects. HasEndedAt objects log left) → IfSome told (λ objects. JudgesRest objects log names left None)
+    → IfSome told (λ objects. GoesOnWith objects names begun log)
+told_goes_on None names begun log left up_to streams good ended rest = tt
+told_goes_on (Some objects) names begun log left up_to streams good ended rest =
+    (left, record { list = up_to; streams = streams; good = good; ended = ended }, rest)
+
+pub told_stops : (told : Option Objects) (names : List ObjName) (begun log : ObjLogState) (left : Option Reached)
+    (error : RecoverError)
+    → IsListUpTo begun.uploads.uuid begun.batch.geometry log.uploads.window.last log.uploads.queue.end log
+    → IfSome told (λ objects. KeepsStreams (expected_of_volume begun) objects begun log)
+    → IfSome told (λ objects. KeepsGood (expected_of_volume begun) objects begun log)
+    → IfSome told (λ objects. HasEndedAt objects log left) → IfSome told (λ objects. RefusesRest objects log names left error)
+    → IfSome told (λ objects. StopsWith objects names begun error)
+told_stops None names begun log left error up_to streams good ended rest = tt
+told_stops (Some objects) names begun log left error up_to streams good ended rest =
+    inr (log, left, record { list = up_to; streams = streams; good = good; ended = ended }, rest)
+
+pub told_unread : (told : Option Objects) (names : List ObjName) (begun : ObjLogState) (error : RecoverError) → IsNoAnswer error
+    → IfSome told (λ objects. StopsWith objects names begun error)
+told_unread None names begun error none = tt
+told_unread (Some objects) names begun error none = inl none
+
+-- beside an object that is not there all past the checkpoint were judged
+pub told_refuses_beside :
+    (told : Option Objects) (of_volume : Expected) (base gap : Reached) (names : List ObjName) (missing : ℕ)
+    (refused : Option ObjectRefusal) (error : RecoverError)
+    → error ≡ refusal_or_missing missing refused → IfSome told (λ objects. GoesToGap of_volume objects base gap)
+    → IfSome told (λ objects. JudgesPast of_volume objects names gap refused)
+    → IfSome told (λ objects. RefusesBeside of_volume objects base names missing error)
+told_refuses_beside None of_volume base gap names missing refused error same goes past = tt
+told_refuses_beside (Some objects) of_volume base gap names missing refused error same goes past =
+    (gap, refused, goes, past, same)
+
+-- what follows from what a recovery begins with
+pub told_then : (told : Option Objects) (P Q : Objects → Type 0) → IfSome told P → IfSome told (λ objects. P objects → Q objects)
+    → IfSome told Q
+told_then None P Q is so = tt
+told_then (Some objects) P Q is so = so is

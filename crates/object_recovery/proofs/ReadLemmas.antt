@@ -25,7 +25,7 @@ use Rattle.object_format.proofs.ObjectLemmas.{rows_end_first, refused_as_rows}
 use Rattle.object_format.proofs.TestLemmas.{header_passes}
 use Rattle.lsvd_objstore.specs.Store.{ReceiptState}
 use Rattle.object_recovery.specs.declared.error.RecoverError.TheVariants.{BadObject}
-use Rattle.object_recovery.specs.Read.{AreFirstOf, IsReadHeader, IsReadAs, IsWhyNotRead}
+use Rattle.object_recovery.specs.Read.{AreFirstOf, IsReadHeader, IsReadAs, IsWhyNotRead, HasNoHeader}
 
 -- ---- the first bytes
 
@@ -215,6 +215,21 @@ why_no_header receipt expected bytes reason first count whole none refused = (re
     of_told None first whole = tt
     of_told (Some all) first whole = refused_head bytes all receipt.size expected reason
         (same_head all bytes receipt.size count first whole) none refused
+
+-- and have no header that the whole has
+pub no_header : (receipt : ReceiptState) (expected : Expected) (bytes : List ℕ) (reason : reason_type.BadObject)
+    → AreFirstOf receipt.told bytes
+    → length bytes ≡ min receipt.size 64 → IfSome receipt.told (λ told. receipt.size ≡ length told)
+    → ((header : Header) → IsObjectHeader bytes receipt.size expected header → ⊥)
+    → HasNoHeader receipt expected (BadObject expected.number reason)
+no_header receipt expected bytes reason first count whole none = of_told receipt.told first whole
+  where
+    of_told : (told : Option (List ℕ)) → AreFirstOf told bytes → IfSome told (λ all. receipt.size ≡ length all)
+        → IfSome told (λ all. (header : Header) → IsObjectHeader all receipt.size expected header → ⊥)
+    of_told None first whole = tt
+    of_told (Some all) first whole = λ header is.
+        none header
+        (moved_header all bytes receipt.size expected header (sym (same_head all bytes receipt.size count first whole)) is)
 
 -- the header of the first bytes is that of the whole
 pub header_of_all : (all bytes : List ℕ) → AreFirstOf (Some all) bytes → (size : ℕ) (expected : Expected) (header : Header)

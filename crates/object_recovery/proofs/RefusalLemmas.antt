@@ -23,19 +23,24 @@ use Rattle.object_stream.specs.Replay.{object_name, HasParts, expected_at}
 use Rattle.object_stream.specs.Stored.{HasContent}
 use Rattle.object_stream.specs.Stream.{Stream, end_at}
 use Rattle.object_stream.proofs.OneLemmas.{same_parts}
-use Rattle.stopped_volume.specs.Objects.{expected_alone}
+use Rattle.ckpt_format.specs.Checkpoint.{IsCheckpoint}
+use Rattle.lsvd_base.specs.Image.{Image}
+use Rattle.stopped_volume.specs.Expected.{expected_alone}
 use Rattle.obj_log.specs.State.{ObjLogState}
 use Rattle.obj_log.specs.Changes.{expected_of_volume}
 use Rattle.object_recovery.specs.declared.error.RecoverError.{RecoverError}
 use Rattle.object_recovery.specs.declared.error.RecoverError.TheVariants as errors
 use Rattle.object_recovery.specs.Faults.{IsNoAnswer}
-use Rattle.object_recovery.specs.Checkpoints.{expected_of, IsNoCheckpoint, IsNewestWithEnd}
+use Rattle.object_recovery.specs.Adoption.{IsRecoveryBegun}
+use Rattle.object_recovery.specs.Checkpoints.{expected_of, ReadCheckpoint, IsNoCheckpoint, IsStoredCheckpoint, IsNewest}
+use Rattle.object_recovery.specs.Checkpoints.{IsNewestWithEnd}
 use Rattle.object_recovery.specs.Judging.{HasEnd, IsBadObject, IsNotData, IsRun, expected_after}
-use Rattle.object_recovery.specs.Recovery.{HasDataUpTo, IsWhyObjectsRefused, IsRefusal, IsRecoveryRefused}
+use Rattle.object_recovery.specs.Recovery.{HasDataUpTo, IsListUpTo, IsMissingThere, IsWhyObjectsRefused, IsRefusal}
+use Rattle.object_recovery.specs.Recovery.{IsRecoveryRefused}
 use Rattle.object_recovery.proofs.EndLemmas.{end_of_object, one_end_before, before_next}
 use Rattle.object_recovery.proofs.ReadLemmas.{refused_is_none}
 use Rattle.object_recovery.proofs.StreamLemmas.{is_stored, is_data, next_end}
-use Rattle.object_recovery.proofs.RecoverLemmas.{IsNewList, base_is, begin_end}
+use Rattle.object_recovery.proofs.RecoverLemmas.{base_is, begin_end, hold_places}
 
 -- where there was no answer, nothing is refused
 no_answer_why : (volume : Expected) (objects : Objects) (error : RecoverError) → IsNoAnswer error
@@ -43,6 +48,7 @@ no_answer_why : (volume : Expected) (objects : Objects) (error : RecoverError) �
 no_answer_why volume objects errors.NoCheckpoint none = absurd none
 no_answer_why volume objects (errors.BadObject number reason) none = absurd none
 no_answer_why volume objects (errors.NotData number) none = absurd none
+no_answer_why volume objects (errors.MissingObject number) none = absurd none
 no_answer_why volume objects errors.StoreFault none = tt
 no_answer_why volume objects errors.OutOfMemory none = tt
 
@@ -50,6 +56,7 @@ no_answer_refuses : (error : RecoverError) → IsNoAnswer error → IsRefusal er
 no_answer_refuses errors.NoCheckpoint none is = none
 no_answer_refuses (errors.BadObject number reason) none is = none
 no_answer_refuses (errors.NotData number) none is = none
+no_answer_refuses (errors.MissingObject number) none is = none
 no_answer_refuses errors.StoreFault none is = is
 no_answer_refuses errors.OutOfMemory none is = is
 
@@ -57,7 +64,7 @@ pub no_answer_refused : (volume : Expected) (objects : Objects) (error : Recover
     → IsRecoveryRefused volume objects error
 no_answer_refused volume objects error none = record {
   why = no_answer_why volume objects error none;
-  no_stream = λ uuid_at stream number has. no_answer_refuses error none;
+  no_stream = λ uuid_at stream opening number has. no_answer_refuses error none;
 }
 
 -- a store without a checkpoint has no stream
@@ -65,7 +72,8 @@ none_refused : (volume : Expected) (objects : Objects) → ((number : ℕ) → I
     → IsRecoveryRefused volume objects errors.NoCheckpoint
 none_refused volume objects none = record {
   why = none;
-  no_stream = λ uuid_at stream number has is. none stream.number stream.end stream.opening has.stored.based;
+  no_stream = λ uuid_at stream opening number has is.
+      none stream.number stream.end stream.opening has.stored.opens.is.checkpoint;
 }
 
 -- ---- the objects of a stream
@@ -83,29 +91,29 @@ data_kind objects uuid_at kind entries rows_of.Checkpoint payload volume header 
     absurd (subst (λ c. HasContent objects uuid_at c entries rows_of.Checkpoint payload) is has)
 
 module _ (volume : Expected) (objects : Objects) (wide : volume.sectors < 2 ^ 64) (uuid_at : ℕ → Option (List ℕ))
-    (stream : Stream) (number : ℕ)
-    (has : HasDataUpTo volume uuid_at objects stream number) where
+    (stream : Stream) (opening : Image) (number : ℕ)
+    (has : HasDataUpTo volume uuid_at objects stream opening number) where
   -- each object from the checkpoint on has the end that the stream has there
   checkpoint_end : HasEnd volume objects stream.number (Some (end_at stream stream.number))
   checkpoint_end =
-      let based = has.stored.based in
-      let none = begin_end stream based.none in
+      let is = has.stored.opens.is.checkpoint in
+      let Ends : ℕ → Type 0 = λ e. IsCheckpoint is.bytes (expected_alone volume stream.number) e is.rows in
       record {
-        bytes = based.bytes;
-        present = based.present;
-        is_end = (based.header, rows_of.Checkpoint, based.parts.is_object, based.ends ∙ sym none);
+        bytes = is.bytes;
+        present = is.present;
+        is_end = inr (is.rows, subst Ends (sym (begin_end stream)) is.is_checkpoint);
       }
 
   object_end : (at : ℕ) → stream.number ≤ at → at < number → HasEnd volume objects (at + 1) (Some (end_at stream (at + 1)))
   object_end at from below =
-      let stored = is_stored volume uuid_at objects stream number wide has at from below in
-      let next = next_end volume uuid_at objects stream number wide has at from below in
+      let stored = is_stored volume uuid_at objects stream opening number wide has at from below in
+      let next = next_end volume uuid_at objects stream opening number wide has at from below in
       let expected = expected_at volume (at + 1) (end_at stream at) in
       let own = end_of_object stored.bytes (length stored.bytes) expected stored.header stored.rows_of stored.parts.is_object in
       record {
         bytes = stored.bytes;
         present = stored.present;
-        is_end = (own.0, own.1, own.2, own.3 ∙ stored.ends ∙ sym next);
+        is_end = inl (own.0, own.1, own.2, own.3 ∙ stored.ends ∙ sym next);
       }
 
   end_there : (at : ℕ) → stream.number ≤ at → at ≤ number → HasEnd volume objects at (Some (end_at stream at))
@@ -121,13 +129,13 @@ module _ (volume : Expected) (objects : Objects) (wide : volume.sectors < 2 ^ 64
 
   module _ (base last : ℕ) (run : IsRun volume objects base last) where
     begins : base ≡ stream.number
-    begins = base_is volume objects base run.end wide run.newest uuid_at stream number has
+    begins = base_is volume objects base run.end wide run.newest uuid_at stream opening number has
 
     -- the run of the store ends where the stream does
     no_shorter : last < number → ⊥
     no_shorter short =
         let from : stream.number ≤ last = omega (arith, begins, run.from) in
-        let stored = is_stored volume uuid_at objects stream number wide has last from short in
+        let stored = is_stored volume uuid_at objects stream opening number wide has last from short in
         let head = stored.parts.is_object.head in
         let fits : last + 1 < 2 ^ 64 = omega (arith, head.number, head.widths.number) in
         let absent = run.missing fits in
@@ -163,7 +171,7 @@ module _ (volume : Expected) (objects : Objects) (wide : volume.sectors < 2 ^ 64
               let from : stream.number ≤ before = omega (arith, begins, past) in
               let below : before < number = omega (arith, within, past) in
               let more : before + 1 ≡ at = omega (arith, past) in
-              let stored = is_stored volume uuid_at objects stream number wide has before from below in
+              let stored = is_stored volume uuid_at objects stream opening number wide has before from below in
               let end = end_there before from (omega (arith, below)) in
               let expected : ℕ → Option ℕ → Expected = λ n e. expected_after volume n e in
               let moved = subst (λ n. IsBadObject volume objects last n reason) (sym more) bad in
@@ -185,7 +193,7 @@ module _ (volume : Expected) (objects : Objects) (wide : volume.sectors < 2 ^ 64
         let below : before < number = omega (arith, other.before, ends, past) in
         let more : before + 1 ≡ at = omega (arith, past) in
         let is = subst (IsNotData volume objects last) (sym more) other in
-        let stored = is_stored volume uuid_at objects stream number wide has before from below in
+        let stored = is_stored volume uuid_at objects stream opening number wide has before from below in
         let same : is.bytes ≡ stored.bytes = let e = is.present in let f = stored.present in cc in
         let expected = expected_after volume (before + 1) is.end_before in
         let payload = drop (512 * front_sectors is.header) is.bytes in
@@ -195,23 +203,36 @@ module _ (volume : Expected) (objects : Objects) (wide : volume.sectors < 2 ^ 64
         stored.header
         is.rows stored.rows_of payload stored.payload wide wide same parts stored.parts in
         let kind = data_kind objects uuid_at _ _ stored.rows_of stored.payload volume.sectors stored.header
-        (is_data volume uuid_at objects stream number wide has before from below) stored.content
+        (is_data volume uuid_at objects stream opening number wide has before from below) stored.content
         stored.parts.is_object.rows_are in
         is.other (ap (λ (h : Header). h.kind) one.headers ∙ kind)
+
+-- each object that the newest checkpoint maps is there
+none_missing : (volume : Expected) (objects : Objects) (wide : volume.sectors < 2 ^ 64) (at : ℕ)
+    → IsMissingThere volume objects at → (uuid_at : ℕ → Option (List ℕ)) (stream : Stream) (opening : Image) (number : ℕ)
+    → HasDataUpTo volume uuid_at objects stream opening number → ⊥
+none_missing volume objects wide at is uuid_at stream opening number has =
+    let missing = is.missing in
+    let newest : IsNewestWithEnd volume objects is.base is.end =
+    record { owned = is.owned; is = is.checkpoint; newest = is.newest } in
+    let hold = hold_places volume objects is.base is.end wide newest uuid_at stream opening number has in
+    missing.not_there uuid_at has.own (hold missing.k missing.place missing.row)
 
 -- so what is refused is no stream
 why_no_stream : (volume : Expected) (objects : Objects) (wide : volume.sectors < 2 ^ 64) (error : RecoverError)
     → IsWhyObjectsRefused volume objects error
-    → (uuid_at : ℕ → Option (List ℕ)) (stream : Stream) (number : ℕ) → HasDataUpTo volume uuid_at objects stream number
-    → IsRefusal error → ⊥
-why_no_stream volume objects wide errors.NoCheckpoint why uuid_at stream number has is =
-    why stream.number stream.end stream.opening has.stored.based
-why_no_stream volume objects wide (errors.BadObject at reason) why uuid_at stream number has is =
-    none_bad volume objects wide uuid_at stream number has why.0 why.1 why.2 at reason why.3.after why.3.bad
-why_no_stream volume objects wide (errors.NotData at) why uuid_at stream number has is =
-    none_other volume objects wide uuid_at stream number has why.0 why.1 why.2 at why.3 why.4
-why_no_stream volume objects wide errors.StoreFault why uuid_at stream number has is = is
-why_no_stream volume objects wide errors.OutOfMemory why uuid_at stream number has is = is
+    → (uuid_at : ℕ → Option (List ℕ)) (stream : Stream) (opening : Image) (number : ℕ)
+    → HasDataUpTo volume uuid_at objects stream opening number → IsRefusal error → ⊥
+why_no_stream volume objects wide errors.NoCheckpoint why uuid_at stream opening number has is =
+    why stream.number stream.end stream.opening has.stored.opens.is.checkpoint
+why_no_stream volume objects wide (errors.BadObject at reason) why uuid_at stream opening number has is =
+    none_bad volume objects wide uuid_at stream opening number has why.0 why.1 why.2 at reason why.3.after why.3.bad
+why_no_stream volume objects wide (errors.NotData at) why uuid_at stream opening number has is =
+    none_other volume objects wide uuid_at stream opening number has why.0 why.1 why.2 at why.3 why.4
+why_no_stream volume objects wide (errors.MissingObject at) why uuid_at stream opening number has is =
+    none_missing volume objects wide at why uuid_at stream opening number has
+why_no_stream volume objects wide errors.StoreFault why uuid_at stream opening number has is = is
+why_no_stream volume objects wide errors.OutOfMemory why uuid_at stream opening number has is = is
 
 pub is_refused : (volume : Expected) (objects : Objects) (wide : volume.sectors < 2 ^ 64) (error : RecoverError)
     → IsWhyObjectsRefused volume objects error
@@ -232,9 +253,11 @@ HasNoneAmong geometry names objects =
     (uuid : List ℕ) (number : ℕ) → IsUuid uuid → Lists uuid objects names
     → IsNoCheckpoint (expected_of uuid geometry) objects number
 
-abbrev pub IsNewestAmong : Geometry → List ObjName → (number end : ℕ) → Objects → Type 0
-IsNewestAmong geometry names number end objects =
-    (uuid : List ℕ) → IsUuid uuid → Lists uuid objects names → IsNewestWithEnd (expected_of uuid geometry) objects number end
+abbrev pub IsNewestAmong : Geometry → List ObjName → ReadCheckpoint → Objects → Type 0
+IsNewestAmong geometry names newest objects =
+    (uuid : List ℕ) → IsUuid uuid → Lists uuid objects names
+    → IsStoredCheckpoint (expected_of uuid geometry) objects newest
+    × IsNewest (expected_of uuid geometry) objects newest.number
 
 pub newest_refused : (told : Option Objects) (uuid : List ℕ) (geometry : Geometry) (names : List ObjName) (error : RecoverError)
     → IsUuid uuid → IfSome told (λ objects. Lists uuid objects names) → ((error ≡ errors.NoCheckpoint) ⊎ IsNoAnswer error)
@@ -249,17 +272,18 @@ newest_refused (Some objects) uuid geometry names error is_uuid listed answer no
       | inr no_answer ↦ no_answer_refused volume objects error no_answer
     ]
 
--- so it is of the volume that is recovered
-pub newest_told : (told : Option Objects) (uuid : List ℕ) (geometry : Geometry) (names : List ObjName) (number end : ℕ)
-    → IsUuid uuid → IfSome told (λ objects. Lists uuid objects names)
-    → IfSome told (IsNewestAmong geometry names number end)
-    → IfSome told (λ objects. IsNewestWithEnd (expected_of uuid geometry) objects number end)
-newest_told None uuid geometry names number end is_uuid listed newest = tt
-newest_told (Some objects) uuid geometry names number end is_uuid listed newest = newest uuid is_uuid listed
+-- so the recovery of this volume begins at it
+pub newest_begins : (told : Option Objects) (uuid : List ℕ) (geometry : Geometry) (names : List ObjName) (newest : ReadCheckpoint)
+    → IsUuid uuid → IfSome told (λ objects. Lists uuid objects names) → IfSome told (IsNewestAmong geometry names newest)
+    → (others : List ObjName) → names ≡ others → IfSome told (IsRecoveryBegun uuid geometry newest others)
+newest_begins None uuid geometry names newest is_uuid listed is others same = tt
+newest_begins (Some objects) uuid geometry names newest is_uuid listed is others same =
+    let here = is uuid is_uuid listed in
+    record { stored = here.0; newest = here.1; listed = subst (Lists uuid objects) same listed }
 
 -- what is expected of the volume of a list
 pub volume_is : (uuid : List ℕ) (geometry : Geometry) (number end : ℕ) (log : ObjLogState)
-    → IsNewList uuid geometry number end log
+    → IsListUpTo uuid geometry number end log
     → expected_of_volume log ≡ expected_of uuid geometry
-volume_is uuid geometry number end log new =
-    ap (λ (u : List ℕ). expected_of u log.batch.geometry) new.list.uuid_is ∙ ap (expected_of uuid) new.list.geometry_is
+volume_is uuid geometry number end log list =
+    ap (λ (u : List ℕ). expected_of u log.batch.geometry) list.uuid_is ∙ ap (expected_of uuid) list.geometry_is

@@ -6,10 +6,10 @@ use Rattle.std.specs.List.{All}
 use Rattle.std.specs.Global.{Vec}
 use Rattle.std.proofs.Math.Seq.{take-add}
 use Rattle.std.proofs.lemmas.Bool.{cases_lt}
-use Rattle.std.proofs.lemmas.List.{drop-drop, take_more, take-append-drop, get_or-take, length-take, length-replicate}
+use Rattle.std.proofs.lemmas.List.{drop-drop, take_more, take-append-drop, get_or-take, length-take}
 use Rattle.std.proofs.lemmas.List.Elements.{All-take, All-drop}
 use Rattle.lsvd_base.specs.declared.entry.Entry.{Entry}
-use Rattle.lsvd_base.specs.Image.{blank, zero_sector, after}
+use Rattle.lsvd_base.specs.Image.{Image, after}
 use Rattle.lsvd_base.specs.Laws.{EndsBy}
 use Rattle.lsvd_base.proofs.SectorLemmas.{applies_in_parts}
 use Rattle.lsvd_objstore.specs.Objects.{Objects, found}
@@ -119,9 +119,9 @@ same_changes objects uuid_at kind entries list rows_of.Checkpoint payload other 
 
 -- ---- one step
 
-module _ (volume : Expected) (uuid_at : ℕ → Option (List ℕ)) (objects : Objects) (stream : Stream) (number : ℕ)
-    (wide : volume.sectors < 2 ^ 64)
-    (has : HasDataUpTo volume uuid_at objects stream number) where
+module _ (volume : Expected) (uuid_at : ℕ → Option (List ℕ)) (objects : Objects) (stream : Stream)
+    (opening : Image) (number : ℕ) (wide : volume.sectors < 2 ^ 64)
+    (has : HasDataUpTo volume uuid_at objects stream opening number) where
   abbrev all : List StreamObject
   all = stream.objects
 
@@ -293,7 +293,7 @@ module _ (volume : Expected) (uuid_at : ℕ → Option (List ℕ)) (objects : Ob
         (same_volume : expected_of_volume old ≡ volume)
         (last : old.uploads.window.last ≡ at) (sealed_none : old.uploads.queue.sealed ≡ []) (batch_none : old.batch.entries ≡ [])
         (uploads : IsUploads old.uploads) (adopted : HasAdoptedObject rows end receipt old new)
-        (list : HasStreamTo volume.sectors stream at old) (there : IsStoredAs objects (next_of old) rows end receipt) where
+        (list : HasStreamTo opening stream at old) (there : IsStoredAs objects (next_of old) rows end receipt) where
       first : old.batch.first ≡ end_before
       first = (list.of_stream (λ n. 0)).first ∙ ap (end_after stream.end) (all_objects (up_to_object at stream))
 
@@ -312,29 +312,28 @@ module _ (volume : Expected) (uuid_at : ℕ → Option (List ℕ)) (objects : Ob
       ends : object.end ≡ end
       ends = object_end rows end receipt stored
 
-      length_image : length (after (blank volume.sectors) (up_to_object at stream).entries) ≡ volume.sectors
+      length_image : length (after opening (up_to_object at stream).entries) ≡ volume.sectors
       length_image =
-          let size = length-replicate volume.sectors zero_sector in
-          length-after (blank volume.sectors) (up_to_object at stream).entries
-          (subst (λ n. All (EndsBy n) (up_to_object at stream).entries) (sym size)
+          length-after opening (up_to_object at stream).entries
+          (subst (λ n. All (EndsBy n) (up_to_object at stream).entries) (sym has.sectors)
           (All-take (EndsBy volume.sectors) (end_before - stream.end) stream.entries has.inside))
-          ∙ size
+          ∙ has.sectors
 
-      part_inside : All (EndsBy (length (after (blank volume.sectors) (up_to_object at stream).entries))) part
+      part_inside : All (EndsBy (length (after opening (up_to_object at stream).entries))) part
       part_inside =
           subst (λ n. All (EndsBy n) part) (sym length_image)
           (All-take (EndsBy volume.sectors) (object.end - end_before) (drop (end_before - stream.end) stream.entries)
           (All-drop (EndsBy volume.sectors) (end_before - stream.end) stream.entries has.inside))
 
-      image : HasImage (after (blank volume.sectors) (up_to_object (at + 1) stream).entries) new.uploads.queue
+      image : HasImage (after opening (up_to_object (at + 1) stream).entries) new.uploads.queue
           × HasOwnReceipts new.uploads.queue
       image =
-          let before = after (blank volume.sectors) (up_to_object at stream).entries in
+          let before = after opening (up_to_object at stream).entries in
           let now = adopting_makes_image (λ n. 0) (up_to_object at stream) old new part stored.bytes rows end receipt before
           uploads (list.of_stream (λ n. 0)) sealed_none holds adopted stored.receipt_is part_inside list.image in
-          let joined : after before part ≡ after (blank volume.sectors) (up_to_object (at + 1) stream).entries =
-          sym (applies_in_parts (blank volume.sectors) (up_to_object at stream).entries part)
-          ∙ ap (after (blank volume.sectors)) entries_more in
+          let joined : after before part ≡ after opening (up_to_object (at + 1) stream).entries =
+          sym (applies_in_parts opening (up_to_object at stream).entries part)
+          ∙ ap (after opening) entries_more in
           (subst (λ x. HasImage x new.uploads.queue) joined now.0, now.1)
 
       of_stream : (data_at : ℕ → ℕ) → IsOfStream data_at (up_to_object (at + 1) stream) new
@@ -345,5 +344,5 @@ module _ (volume : Expected) (uuid_at : ℕ → Option (List ℕ)) (objects : Ob
           (adopting_keeps_stream data_at (up_to_object at stream) old new part stored.bytes rows end receipt uploads
           (list.of_stream data_at) sealed_none batch_none goes some holds adopted)
 
-      pub one_more : HasStreamTo volume.sectors stream (at + 1) new
+      pub one_more : HasStreamTo opening stream (at + 1) new
       one_more = record { of_stream = of_stream; image = image.0; receipts = image.1 }

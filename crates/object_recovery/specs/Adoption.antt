@@ -24,18 +24,17 @@ use Rattle.object_recovery.specs.declared.adoption.Next.{Next}
 use Rattle.object_recovery.specs.declared.adoption.Next.TheVariants as next
 use Rattle.object_recovery.specs.declared.adoption.NextObject.{NextObject}
 use Rattle.object_recovery.specs.declared.adoption.NextObject.TheVariants as next_object
-use Rattle.object_recovery.specs.declared.checkpoint.NewestCheckpoint.{NewestCheckpoint}
 use Rattle.object_recovery.specs.declared.judging.Reached.{Reached}
 use Rattle.object_recovery.specs.declared.judging.ObjectRefusal.{ObjectRefusal}
 use Rattle.object_recovery.specs.declared.judging.ObjectRefusal.TheVariants as refusals
 use Rattle.object_recovery.specs.declared.error.RecoverError.{RecoverError}
-use Rattle.object_recovery.specs.Checkpoints.{expected_of, IsNewestWithEnd}
-use Rattle.object_recovery.specs.Faults.{IsNoAnswer, of_refusal, ends_by_fault}
+use Rattle.object_recovery.specs.Checkpoints.{expected_of, ReadCheckpoint, IsStoredCheckpoint, IsNewest}
+use Rattle.object_recovery.specs.Faults.{IsNoAnswer, of_refusal, refusal_or_missing, ends_by_fault}
 use Rattle.object_recovery.specs.Judging.{IsEndOf}
 use Rattle.object_recovery.specs.Judged.{IsReached, GoesToGap, JudgesPast, StaysRefused}
 use Rattle.object_recovery.specs.Places.{HasPlacesInside}
 use Rattle.object_recovery.specs.Read.{IsReadAs}
-use Rattle.object_recovery.specs.Recovery.{IsListUpTo, IsRecoveryRefused}
+use Rattle.object_recovery.specs.Recovery.{IsListUpTo, KeepsStreams, IsRecoveryRefused}
 use Rattle.object_recovery.specs.Recovering.{Recovers}
 
 -- ---- the next object
@@ -152,25 +151,64 @@ RefusesRest objects log names left error =
 
 -- ---- the whole
 
+-- beside an object that the newest checkpoint maps and that does not have what it maps: all past the checkpoint were judged, up
+-- to which this was reached, and the error refuses one of them, or that object
+abbrev pub RefusesBeside : Expected → Objects → (base : Reached) → List ObjName → (missing : ℕ) → RecoverError → Type 0
+RefusesBeside volume objects base names missing error =
+    (gap : Reached) × (refused : Option ObjectRefusal) × GoesToGap volume objects base gap
+    × JudgesPast volume objects names gap refused × (error ≡ refusal_or_missing missing refused)
+
+-- a list went on from a checkpoint: its objects were adopted up to the first missing number, or before this one
+pub record HasGoneOn (objects : Objects) (old new : ObjLogState) (left : Option Reached) : Type 0 where
+  pub list : IsListUpTo old.uploads.uuid old.batch.geometry new.uploads.window.last new.uploads.queue.end new
+  pub streams : KeepsStreams (expected_of_volume old) objects old new
+  pub good : KeepsGood (expected_of_volume old) objects old new
+  pub ended : HasEndedAt objects new left
+
+-- and all past it were judged, and none is refused; or the error refuses them, or is no answer
+abbrev pub GoesOnWith : Objects → List ObjName → (old new : ObjLogState) → Type 0
+GoesOnWith objects names old new =
+    (left : Option Reached) × HasGoneOn objects old new left × JudgesRest objects new names left None
+
+abbrev pub StopsWith : Objects → List ObjName → (old : ObjLogState) → RecoverError → Type 0
+StopsWith objects names old error =
+    IsNoAnswer error
+    ⊎ ((new : ObjLogState) × (left : Option Reached) × HasGoneOn objects old new left
+    × RefusesRest objects new names left error)
+
+-- how a list goes on from a checkpoint
+pub record GoesOnOf (Tells : Type 0) (log : ObjLogState) (names : List ObjName) (old new : StoreState)
+    (result : Result ObjLogState RecoverError) : Type 0 where
+  pub list : IfOk result (λ after. IsListUpTo log.uploads.uuid log.batch.geometry after.uploads.window.last
+      after.uploads.queue.end after)
+  pub from : IfOk result (λ after. log.uploads.window.last ≤ after.uploads.window.last)
+  pub order : IfOk result (λ after. IsUploads after.uploads)
+  pub places : IfOk result (λ after. HasPlacesInside log.batch.geometry.sectors after.uploads.queue)
+  pub goes_on : Tells → IfOk result (λ after. IfSome old.objects (λ objects. GoesOnWith objects names log after))
+  pub refused : Tells → IfErr result (λ error. IfSome old.objects (λ objects. StopsWith objects names log error))
+  pub unchanged : OnlyCounts old new
+  pub faults : Counts (ends_by_fault result) old.faults new.faults
+
 -- a recovery begins at the newest checkpoint of a volume, with the names of all its objects
-pub record IsRecoveryBegun (uuid : List ℕ) (geometry : Geometry) (base end : ℕ) (names : List ObjName) (objects : Objects) :
-    Type 0 where
-  pub newest : IsNewestWithEnd (expected_of uuid geometry) objects base end
+pub record IsRecoveryBegun (uuid : List ℕ) (geometry : Geometry) (base : ReadCheckpoint) (names : List ObjName)
+    (objects : Objects) : Type 0 where
+  pub stored : IsStoredCheckpoint (expected_of uuid geometry) objects base
+  pub newest : IsNewest (expected_of uuid geometry) objects base.number
   pub listed : Lists uuid objects names
 
 -- How the recovery of a list ends that begins at this checkpoint, with these names. Where bytes are told, and a recovery begins
 -- so in the store, the list is that of what the store has, or the error refuses what it has.
-pub record RecoverListOf (Tells : Type 0) (uuid : List ℕ) (geometry : Geometry) (base : NewestCheckpoint) (names : List ObjName)
+pub record RecoverListOf (Tells : Type 0) (uuid : List ℕ) (geometry : Geometry) (base : ReadCheckpoint) (names : List ObjName)
     (old new : StoreState) (result : Result ObjLogState RecoverError) : Type 0 where
   pub list : IfOk result (λ log. IsListUpTo uuid geometry log.uploads.window.last log.uploads.queue.end log)
   pub from : IfOk result (λ log. base.number ≤ log.uploads.window.last)
   pub order : IfOk result (λ log. IsUploads log.uploads)
   pub places : IfOk result (λ log. HasPlacesInside geometry.sectors log.uploads.queue)
   pub recovers : Tells → IfOk result (λ log. IfSome old.objects (λ objects.
-      IsRecoveryBegun uuid geometry base.number base.end names objects
+      IsRecoveryBegun uuid geometry base names objects
       → Recovers (expected_of uuid geometry) base.number objects log))
   pub refused : Tells → IfErr result (λ error. IfSome old.objects (λ objects.
-      IsRecoveryBegun uuid geometry base.number base.end names objects
+      IsRecoveryBegun uuid geometry base names objects
       → IsRecoveryRefused (expected_of uuid geometry) objects error))
   pub unchanged : OnlyCounts old new
   pub faults : Counts (ends_by_fault result) old.faults new.faults

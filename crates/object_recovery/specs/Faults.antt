@@ -1,5 +1,5 @@
 -- Contract: which outcomes of a recovery are faults of the store.
-use Rattle.std.specs.Prelude.{Bool, true, false, Result, Ok, Err}
+use Rattle.std.specs.Prelude.{ℕ, Bool, true, false, Option, Some, None, Result, Ok, Err}
 use Rattle.lsvd_objstore.specs.declared.error.StoreError.{StoreError}
 use Rattle.lsvd_objstore.specs.declared.error.StoreError.TheVariants as store
 use Rattle.object_recovery.specs.declared.judging.ObjectRefusal.{ObjectRefusal}
@@ -17,11 +17,17 @@ abbrev pub of_refusal : ObjectRefusal → RecoverError
 of_refusal (Bad number reason) = errors.BadObject number reason
 of_refusal (NotData number) = errors.NotData number
 
+-- the error of a refusal, or else that of a missing object
+abbrev pub refusal_or_missing : (missing : ℕ) → Option ObjectRefusal → RecoverError
+refusal_or_missing missing None = errors.MissingObject missing
+refusal_or_missing missing (Some refusal) = of_refusal refusal
+
 -- a call of the store failed
 abbrev pub is_store_fault : RecoverError → Bool
 is_store_fault errors.NoCheckpoint = false
 is_store_fault (errors.BadObject number reason) = false
 is_store_fault (errors.NotData number) = false
+is_store_fault (errors.MissingObject number) = false
 is_store_fault errors.StoreFault = true
 is_store_fault errors.OutOfMemory = false
 
@@ -34,5 +40,6 @@ abbrev pub IsNoAnswer : RecoverError → Type 0
 IsNoAnswer errors.NoCheckpoint = ⊥
 IsNoAnswer (errors.BadObject number reason) = ⊥
 IsNoAnswer (errors.NotData number) = ⊥
+IsNoAnswer (errors.MissingObject number) = ⊥
 IsNoAnswer errors.StoreFault = Unit {0}
 IsNoAnswer errors.OutOfMemory = Unit {0}

@@ -6,13 +6,15 @@ use Rattle.object_format.specs.declared.expected.Expected.{Expected}
 use Rattle.object_format.specs.declared.reason.BadObject.{BadObject}
 use Rattle.object_format.specs.Tests.{IsObjectRefusedAs}
 use Rattle.object_stream.specs.Replay.{object_name}
-use Rattle.stopped_volume.specs.Objects.{expected_alone, IsWhole}
+use Rattle.stopped_volume.specs.Expected.{expected_alone}
+use Rattle.stopped_volume.specs.Objects.{IsWhole}
 use Rattle.object_recovery.specs.declared.reading.ReadObject.{ReadObject}
 use Rattle.object_recovery.specs.declared.reading.ReadObject.TheVariants as read
 use Rattle.object_recovery.specs.declared.judging.Judged.{Judged}
 use Rattle.object_recovery.specs.declared.judging.Reached.{Reached}
 use Rattle.object_recovery.specs.declared.judging.ObjectRefusal.{ObjectRefusal}
 use Rattle.object_recovery.specs.declared.judging.ObjectRefusal.TheVariants as refusals
+use Rattle.object_recovery.specs.Checkpoints.{IsNewest}
 use Rattle.object_recovery.specs.Judging.{IsEndOf, HasEnd, IsBadObject, AreGood, IsNotData, HaveLanded}
 
 -- ---- one object
@@ -59,8 +61,10 @@ IsVerdict volume objects last Such (Some (refusals.Bad number reason)) =
 IsVerdict volume objects last Such (Some (refusals.NotData number)) =
     Such number × IsNotData volume objects last number × AreGood volume objects last Such
 
--- Those past a number were judged, up to one that was reached, wherever the first missing number is after that.
+-- Those past the newest checkpoint, which has this number, were judged, up to one that was reached, wherever the first missing
+-- number is after that.
 pub record IsReached (volume : Expected) (objects : Objects) (base : ℕ) (reached : Reached) : Type 0 where
+  pub newest : IsNewest volume objects base
   pub from : base ≤ reached.number
   pub landed : HaveLanded objects volume base reached.number
   pub has_end : HasEnd volume objects reached.number reached.end

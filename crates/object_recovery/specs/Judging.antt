@@ -1,5 +1,5 @@
 -- Contract: which objects of a volume in a store are bad.
-use Rattle.std.specs.Prelude.{◌≡◌, ℕ, ◌+◌, ◌-◌, ◌^◌, ◌<◌, ◌≤◌, Option, Some, None, IsTrue, List, length}
+use Rattle.std.specs.Prelude.{◌≡◌, ℕ, ◌+◌, ◌-◌, ◌^◌, ◌<◌, ◌≤◌, ◌⊎◌, Option, Some, None, IsTrue, List, length}
 use Rattle.lsvd_objstore.specs.Objects.{Objects, found}
 use Rattle.object_format.specs.declared.expected.Expected.{Expected}
 use Rattle.object_format.specs.declared.header.Header.{Header}
@@ -9,7 +9,11 @@ use Rattle.object_format.specs.declared.rows.Rows.{Rows}
 use Rattle.object_format.specs.Object.{IsObject}
 use Rattle.object_format.specs.Tests.{IsObjectRefusedAs}
 use Rattle.object_stream.specs.Replay.{object_name}
-use Rattle.stopped_volume.specs.Objects.{landed_in, expected_alone, IsWhole}
+use Rattle.extent_map.specs.declared.extent.Extent.{Extent}
+use Rattle.ckpt_format.specs.declared.place.StoredPlace.{StoredPlace}
+use Rattle.ckpt_format.specs.Checkpoint.{IsCheckpoint}
+use Rattle.stopped_volume.specs.Expected.{expected_alone}
+use Rattle.stopped_volume.specs.Objects.{landed_in, IsWhole}
 use Rattle.object_recovery.specs.Checkpoints.{IsNewestWithEnd}
 
 -- ---- the end before an object
@@ -23,11 +27,22 @@ IsEndOf bytes size expected (Some end) =
     (header : Header) × (rows : Rows) × IsObject bytes size (expected_alone expected expected.number) header rows
     × (header.end_seq ≡ end)
 
+-- bytes are an object of the grammar under what is expected, with or without rows of a checkpoint, and this is its end
+abbrev pub EndsAt : (bytes : List ℕ) → Expected → (end : ℕ) → Type 0
+EndsAt bytes expected end =
+    ((header : Header) × (rows : Rows) × IsObject bytes (length bytes) expected header rows × (header.end_seq ≡ end))
+    ⊎ ((rows : List (Extent StoredPlace)) × IsCheckpoint bytes expected end rows)
+
+-- the end that bytes have where they are; none where they are not
+abbrev pub HaveEnd : (bytes : List ℕ) → Expected → Option ℕ → Type 0
+HaveEnd bytes expected None = (end : ℕ) → EndsAt bytes expected end → ⊥
+HaveEnd bytes expected (Some end) = EndsAt bytes expected end
+
 -- the store has an object of this number, and that is the end of its bytes
 pub record HasEnd (volume : Expected) (objects : Objects) (number : ℕ) (end : Option ℕ) : Type 0 where
   pub bytes : List ℕ
   pub present : found objects (object_name volume number) ≡ Some bytes
-  pub is_end : IsEndOf bytes (length bytes) (expected_alone volume number) end
+  pub is_end : HaveEnd bytes (expected_alone volume number) end
 
 -- The end before an object, by the last one before the first missing number: up to that one, the end of the object before it;
 -- past the first missing number it is not known.

@@ -7,6 +7,9 @@ pub mod Read
 pub mod Places
 pub mod Removal
 pub mod Adoption
+pub mod Missing
+pub mod Earlier
 pub mod Recovery
+pub mod Beginning
 pub mod Recovering
 pub mod Laws

@@ -1,8 +1,8 @@
 -- Contract: what a recovery of the objects of a volume makes of a store.
-use Rattle.std.specs.Prelude.{◌≡◌, ℕ, ◌+◌, ◌-◌, ◌^◌, ◌<◌, ◌≤◌, ◌⊎◌, None, Option, Some, List, [], take}
+use Rattle.std.specs.Prelude.{◌≡◌, ℕ, ◌+◌, ◌-◌, ◌^◌, ◌<◌, ◌≤◌, ◌⊎◌, None, Option, Some, List, [], length, take}
 use Rattle.std.specs.List.{All}
 use Rattle.lsvd_base.specs.declared.geometry.Geometry.{Geometry}
-use Rattle.lsvd_base.specs.Image.{blank, after}
+use Rattle.lsvd_base.specs.Image.{Image, after}
 use Rattle.lsvd_base.specs.Laws.{EndsBy}
 use Rattle.lsvd_names.specs.Spelling.{IsName}
 use Rattle.lsvd_names.specs.declared.name.ObjName.{ObjName}
@@ -13,8 +13,10 @@ use Rattle.object_stream.specs.declared.object.Content.TheVariants.{Data}
 use Rattle.object_stream.specs.declared.object.StreamObject.{StreamObject}
 use Rattle.object_stream.specs.Landed.{Numbers, IsFirstMissing}
 use Rattle.object_stream.specs.Replay.{object_name}
-use Rattle.object_stream.specs.Stream.{Stream, objects_to, end_at, IsStream}
-use Rattle.stopped_volume.specs.Objects.{landed_in, expected_alone, AreCheckpoints, IsWhole}
+use Rattle.object_stream.specs.Stream.{Stream, Owners, objects_to, end_at, IsStream}
+use Rattle.stopped_volume.specs.Expected.{expected_alone}
+use Rattle.stopped_volume.specs.Opening.{IsCheckpointOf}
+use Rattle.stopped_volume.specs.Objects.{landed_in, AreCheckpoints, IsWhole}
 use Rattle.stopped_volume.specs.Laws.{HasStreamUpTo}
 use Rattle.volume_maps.specs.Maps.{logged_at}
 use Rattle.object_uploads.specs.Image.{HasImage, HasOwnReceipts}
@@ -22,7 +24,8 @@ use Rattle.obj_log.specs.State.{ObjLogState}
 use Rattle.obj_log.specs.Stream.{IsOfStream}
 use Rattle.object_recovery.specs.declared.error.RecoverError.{RecoverError}
 use Rattle.object_recovery.specs.declared.error.RecoverError.TheVariants as errors
-use Rattle.object_recovery.specs.Checkpoints.{IsNoCheckpoint}
+use Rattle.object_recovery.specs.Checkpoints.{IsNoCheckpoint, IsNewest}
+use Rattle.object_recovery.specs.Missing.{IsMissing}
 use Rattle.object_recovery.specs.Judging.{AreGood, IsGreatestBad, IsNotData, IsRun}
 use Rattle.object_recovery.specs.Removal.{Removes, IsPast}
 
@@ -35,12 +38,14 @@ up_to_object number stream = record stream {
   objects = objects_to stream number;
 }
 
--- A store has a stream of a volume without clones from its newest checkpoint on, up to the object of a number: that before the
+-- A store has a stream of a volume from its newest checkpoint on, over this image, up to the object of a number: that before the
 -- first missing one. Each object past the checkpoint up to there holds entries, and the entries lie inside the volume.
-pub record HasDataUpTo (volume : Expected) (uuid_at : ℕ → Option (List ℕ)) (objects : Objects) (stream : Stream) (number : ℕ) :
-    Type 0 where
+pub record HasDataUpTo (volume : Expected) (uuid_at : ℕ → Option (List ℕ)) (objects : Objects) (stream : Stream)
+    (opening : Image) (number : ℕ) : Type 0 where
+  pub own : uuid_at 0 ≡ Some volume.uuid
   pub valid : IsStream stream
-  pub stored : HasStreamUpTo volume uuid_at objects stream (blank volume.sectors) number
+  pub sectors : length opening ≡ volume.sectors
+  pub stored : HasStreamUpTo volume uuid_at objects stream opening number
   pub hold_data : All (λ (object : StreamObject). object.content ≡ Data) (objects_to stream number)
   pub inside : All (EndsBy volume.sectors) stream.entries
 
@@ -61,10 +66,10 @@ pub record IsListUpTo (uuid : List ℕ) (geometry : Geometry) (number end : ℕ)
   pub logged : (k : ℕ) → logged_at log.uploads.queue.maps k ≡ None
 
 -- The list is that of a stream up to the object of a number, wherever the data of entries are told, and its objects have the
--- image that the entries in these make of a new volume.
-pub record HasStreamTo (sectors : ℕ) (stream : Stream) (number : ℕ) (log : ObjLogState) : Type 0 where
+-- image that the entries in these make of the one that the stream opens with.
+pub record HasStreamTo (opening : Image) (stream : Stream) (number : ℕ) (log : ObjLogState) : Type 0 where
   pub of_stream : (data_at : ℕ → ℕ) → IsOfStream data_at (up_to_object number stream) log
-  pub image : HasImage (after (blank sectors) (up_to_object number stream).entries) log.uploads.queue
+  pub image : HasImage (after opening (up_to_object number stream).entries) log.uploads.queue
   pub receipts : HasOwnReceipts log.uploads.queue
 
 -- ---- all objects up to the first missing number
@@ -73,11 +78,12 @@ pub record HasStreamTo (sectors : ℕ) (stream : Stream) (number : ℕ) (log : O
 -- frontier is no earlier, and none past the last object.
 abbrev pub KeepsStreams : (volume : Expected) → Objects → (old new : ObjLogState) → Type 0
 KeepsStreams volume objects old new =
-    (uuid_at : ℕ → Option (List ℕ)) (stream : Stream) (number : ℕ) → HasDataUpTo volume uuid_at objects stream number
+    (uuid_at : ℕ → Option (List ℕ)) (stream : Stream) (opening : Image) (number : ℕ)
+    → HasDataUpTo volume uuid_at objects stream opening number
     → stream.number ≤ old.uploads.window.last → old.uploads.window.last ≤ number
-    → HasStreamTo volume.sectors stream old.uploads.window.last old
+    → HasStreamTo opening stream old.uploads.window.last old
     → (old.uploads.window.last ≤ new.uploads.window.last) × (new.uploads.window.last ≤ number)
-    × HasStreamTo volume.sectors stream new.uploads.window.last new
+    × HasStreamTo opening stream new.uploads.window.last new
 
 -- ---- the whole
 
@@ -88,15 +94,15 @@ IsLastLanded volume objects number =
     (number + 1)
 
 -- whichever stream the store has, the list is that of it up to the object before the first missing number
-pub record HasRecovered (sectors : ℕ) (stream : Stream) (number : ℕ) (log : ObjLogState) : Type 0 where
+pub record HasRecovered (opening : Image) (stream : Stream) (number : ℕ) (log : ObjLogState) : Type 0 where
   pub number_is : log.uploads.window.last ≡ number
   pub end_is : log.uploads.queue.end ≡ end_at stream number
-  pub streams : HasStreamTo sectors stream number log
+  pub streams : HasStreamTo opening stream number log
 
 abbrev pub RecoversStreams : (volume : Expected) → Objects → ObjLogState → Type 0
 RecoversStreams volume objects log =
-    (uuid_at : ℕ → Option (List ℕ)) (stream : Stream) (number : ℕ) → HasDataUpTo volume uuid_at objects stream number
-    → HasRecovered volume.sectors stream number log
+    (uuid_at : ℕ → Option (List ℕ)) (stream : Stream) (opening : Image) (number : ℕ)
+    → HasDataUpTo volume uuid_at objects stream opening number → HasRecovered opening stream number log
 
 -- the list is that of each stream that the store has, and its last object is that before the first missing number
 pub record IsRecoveredOf (volume : Expected) (objects : Objects) (log : ObjLogState) : Type 0 where
@@ -106,8 +112,8 @@ pub record IsRecoveredOf (volume : Expected) (objects : Objects) (log : ObjLogSt
 -- no stream that the store has ends before the object of this number
 abbrev pub IsNoLonger : (volume : Expected) → Objects → (last : ℕ) → Type 0
 IsNoLonger volume objects last =
-    (uuid_at : ℕ → Option (List ℕ)) (stream : Stream) (number : ℕ) → HasDataUpTo volume uuid_at objects stream number
-    → last ≤ number
+    (uuid_at : ℕ → Option (List ℕ)) (stream : Stream) (opening : Image) (number : ℕ)
+    → HasDataUpTo volume uuid_at objects stream opening number → last ≤ number
 
 -- an object of a volume past a number
 abbrev pub IsPastOf : (uuid : List ℕ) → (number : ℕ) → ObjName → Type 0
@@ -146,11 +152,22 @@ IsNotDataThere volume objects number =
     (base : ℕ) × (last : ℕ) × IsRun volume objects base last × (base < number) × IsNotData volume objects last number
     × AreGood volume objects last (λ other. base < other)
 
+-- all are good, and the newest checkpoint maps a sector to this one, which does not have it there
+pub record IsMissingThere (volume : Expected) (objects : Objects) (number : ℕ) : Type 0 where
+  pub base : ℕ
+  pub end : ℕ
+  pub owned : Owners
+  pub checkpoint : IsCheckpointOf volume objects base end owned
+  pub newest : IsNewest volume objects base
+  pub good : AreAllGood volume objects base
+  pub missing : IsMissing volume objects checkpoint.rows number
+
 -- why the objects of a store are refused
 abbrev pub IsWhyObjectsRefused : (volume : Expected) → Objects → RecoverError → Type 0
 IsWhyObjectsRefused volume objects errors.NoCheckpoint = (number : ℕ) → IsNoCheckpoint volume objects number
 IsWhyObjectsRefused volume objects (errors.BadObject number reason) = IsBadThere volume objects number reason
 IsWhyObjectsRefused volume objects (errors.NotData number) = IsNotDataThere volume objects number
+IsWhyObjectsRefused volume objects (errors.MissingObject number) = IsMissingThere volume objects number
 IsWhyObjectsRefused volume objects errors.StoreFault = Unit {0}
 IsWhyObjectsRefused volume objects errors.OutOfMemory = Unit {0}
 
@@ -159,14 +176,15 @@ abbrev pub IsRefusal : RecoverError → Type 0
 IsRefusal errors.NoCheckpoint = Unit {0}
 IsRefusal (errors.BadObject number reason) = Unit {0}
 IsRefusal (errors.NotData number) = Unit {0}
+IsRefusal (errors.MissingObject number) = Unit {0}
 IsRefusal errors.StoreFault = ⊥
 IsRefusal errors.OutOfMemory = ⊥
 
 -- no stream that the store has is refused
 abbrev pub RefusesNoStream : (volume : Expected) → Objects → RecoverError → Type 0
 RefusesNoStream volume objects error =
-    (uuid_at : ℕ → Option (List ℕ)) (stream : Stream) (number : ℕ) → HasDataUpTo volume uuid_at objects stream number
-    → IsRefusal error → ⊥
+    (uuid_at : ℕ → Option (List ℕ)) (stream : Stream) (opening : Image) (number : ℕ)
+    → HasDataUpTo volume uuid_at objects stream opening number → IsRefusal error → ⊥
 
 -- an error with its reason, which refuses no stream that the store has
 pub record IsRecoveryRefused (volume : Expected) (objects : Objects) (error : RecoverError) : Type 0 where

@@ -1,47 +1,73 @@
-ghost use Rattle.std.specs.Prelude.{◌≡◌, ℕ, ◌⊎◌, List, IfOk, IfErr, IfSome, IsErrOf};
+ghost use Rattle.std.specs.Prelude.{◌≡◌, ℕ, ◌⊎◌, List, length, IfOk, IfErr, IfSome, IfNone, IsErrOf};
+ghost use Rattle.std.specs.Prelude.{option_map};
+ghost use Rattle.extent_map.specs.declared.extent.Extent.{Extent};
 ghost use Rattle.lsvd_names.specs.Spelling.{IsUuid, IsName};
-ghost use Rattle.lsvd_objstore.specs.Objects.{Lists};
+ghost use Rattle.lsvd_objstore.specs.Objects.{AreNamesOf, Lists};
 ghost use Rattle.lsvd_objstore.specs.Store.{StoreState, ReceiptState, OnlyCounts};
 ghost use Rattle.lsvd_fault.specs.Faults.{Counts};
-ghost use Rattle.stopped_volume.specs.Objects.{expected_alone};
+ghost use Rattle.ckpt_format.specs.declared.place.StoredPlace.{StoredPlace};
+ghost use Rattle.ckpt_format.specs.Checkpoint.{IsCheckpoint};
+ghost use Rattle.stopped_volume.specs.Expected.{expected_alone};
 ghost use Rattle.object_recovery.specs.Faults.{ends_by_fault, IsNoAnswer};
 ghost use Rattle.stopped_volume.specs.Store.{TellsBytes};
-ghost use Rattle.object_recovery.specs.Read.{IsWhyNotRead};
-ghost use Rattle.object_recovery.specs.Checkpoints.{expected_of, IsEndOfCheckpoint, IsNoCheckpoint};
-ghost use Rattle.object_recovery.specs.Checkpoints.{IsCheckpointNamed, AreNames, IsNewestWithEnd};
+ghost use Rattle.object_recovery.specs.Checkpoints.{expected_of, IsNoCheckpoint, IsReadCheckpoint};
+ghost use Rattle.object_recovery.specs.Checkpoints.{IsStoredCheckpoint, IsCheckpointNamed, AreNames};
+ghost use Rattle.object_recovery.specs.Checkpoints.{IsNewest, MayBeCheckpoint};
 
 use crate::error::RecoverError;
-use crate::reading::{read_front, read_head};
+use crate::reading::{read_head, read_whole};
+use ckpt_format::read_checkpoint;
 use lsvd_base::Geometry;
 use lsvd_names::{NameKind, ObjName};
 use lsvd_objstore::{Receipt, Store};
 use object_format::{Expected, Kind};
 use std::alloc::Global;
+use std::marker::Model;
 use uuid::Uuid;
 
-/// A checkpoint that a recovery begins at.
-#[derive(Clone, Copy, Drop)]
-pub(crate) struct NewestCheckpoint {
+/// A checkpoint that was read.
+#[derive(Drop)]
+pub(crate) struct StoredCheckpoint<R: Receipt> {
     /// Its number.
     pub(crate) number: u64,
     /// How many entries of the history are in it and in the objects before it.
     pub(crate) end: u64,
+    /// All of its bytes, which are of the grammar.
+    pub(crate) bytes: Vec<u8>,
+    /// What the store gave for it.
+    pub(crate) receipt: R,
+}
+
+impl<R: Receipt> Model for StoredCheckpoint<R> {
+    ghost use Rattle.object_recovery.specs.Checkpoints.{ReadCheckpoint};
+
+    ghost Value = { ReadCheckpoint };
+
+    ghost view = { λ c. record {
+      number = c.number;
+      end = c.end;
+      bytes = c.bytes.items;
+      receipt = R.state c.receipt;
+    } };
 }
 
 /// The newest checkpoint among names, which are those of a volume's objects, in ascending order: the first
-/// bytes of objects are read from the last name on, until a checkpoint is found. `NoCheckpoint` comes where
-/// none is.
+/// bytes of objects are read from the last name on, and all of one whose header is that of a checkpoint,
+/// until one is found. `NoCheckpoint` comes where none is.
 pub(crate) fn newest_checkpoint<S: Store>(
     alloc: Global,
     store: &mut S,
     geometry: &Geometry,
     names: &[ObjName],
-) -> Result<NewestCheckpoint, RecoverError>
+) -> Result<StoredCheckpoint<S::Receipt>, RecoverError>
     requires { AreNames names.now }
+    ensures read { IfOk result (λ newest. (uuid : List ℕ) → AreNamesOf uuid names.now
+        → IsReadCheckpoint (expected_of uuid geometry.now) newest) }
     ensures newest { TellsBytes S.Receipt.state
         → IfOk result (λ newest. IfSome (S.state store.old).objects (λ objects.
         (uuid : List ℕ) → IsUuid uuid → Lists uuid objects names.now
-        → IsNewestWithEnd (expected_of uuid geometry.now) objects newest.number newest.end)) }
+        → IsStoredCheckpoint (expected_of uuid geometry.now) objects newest
+        × IsNewest (expected_of uuid geometry.now) objects newest.number)) }
     ensures none { TellsBytes S.Receipt.state → IsErrOf result RecoverError.NoCheckpoint
         → IfSome (S.state store.old).objects (λ objects.
         (uuid : List ℕ) (number : ℕ) → IsUuid uuid → Lists uuid objects names.now
@@ -53,27 +79,27 @@ pub(crate) fn newest_checkpoint<S: Store>(
     let mut left = names.len();
     while 0 < left {
         left -= 1;
-        let name = names[left];
-        if let Some(end) = checkpoint_end(alloc, store, geometry, &name)? {
-            let number = name.number;
-            return Ok(NewestCheckpoint { number, end });
+        if let Some(newest) = checkpoint_named(alloc, store, geometry, &names[left])? {
+            return Ok(newest);
         }
     }
     Err(RecoverError::NoCheckpoint)
 }
 
-// The end of the whole checkpoint with this name, which is one (a condition). None is where it is no
-// checkpoint, and where no object has the name.
-fn checkpoint_end<S: Store>(
+// The whole checkpoint with this name, which is one (a condition). None is where it is no checkpoint, and
+// where no object has the name.
+fn checkpoint_named<S: Store>(
     alloc: Global,
     store: &mut S,
     geometry: &Geometry,
     name: &ObjName,
-) -> Result<Option<u64>, RecoverError>
+) -> Result<Option<StoredCheckpoint<S::Receipt>>, RecoverError>
     requires { IsName name.now }
-    ensures end { TellsBytes S.Receipt.state
-        → IfOk result (λ end. IfSome (S.state store.old).objects (λ objects.
-        IsCheckpointNamed geometry.now objects name.now end)) }
+    ensures read { IfOk result (λ found. IfSome found (IsReadCheckpoint
+        (expected_of name.now.uuid geometry.now))) }
+    ensures named { TellsBytes S.Receipt.state
+        → IfOk result (λ found. IfSome (S.state store.old).objects (λ objects.
+        IsCheckpointNamed geometry.now objects name.now found)) }
     ensures answer { IfErr result IsNoAnswer }
     ensures unchanged { OnlyCounts (S.state store.old) (S.state store.new) }
     ensures faults { Counts (ends_by_fault result) (S.state store.old).faults (S.state store.new).faults }
@@ -85,38 +111,68 @@ fn checkpoint_end<S: Store>(
         return Ok(None);
     };
     let expected = expected_alone(name.uuid, geometry, name.number);
-    match end_in_object(alloc, store, &receipt, &expected) {
-        Ok(end) => Ok(end),
-        Err(RecoverError::BadObject { .. }) => Ok(None),
-        Err(error) => Err(error),
-    }
+    let Some(bytes) = bytes_of_checkpoint(alloc, store, &receipt, &expected)? else {
+        return Ok(None);
+    };
+    let Some(end) = end_of_rows(bytes.as_slice(), &expected) else {
+        return Ok(None);
+    };
+    Ok(Some(StoredCheckpoint {
+        number: name.number,
+        end,
+        bytes,
+        receipt,
+    }))
 }
 
-// The end of the object under the expected number, if it is a whole checkpoint. None is where it is of
-// another kind.
-fn end_in_object<S: Store>(
+// All bytes of an object, where its header is that of a checkpoint under the expected number.
+fn bytes_of_checkpoint<S: Store>(
     alloc: Global,
     store: &mut S,
     receipt: &S::Receipt,
     expected: &Expected,
-) -> Result<Option<u64>, RecoverError>
-    ensures end { IfOk result (λ end. IfSome (S.Receipt.state receipt.now).told (λ told.
-        IsEndOfCheckpoint told (S.Receipt.state receipt.now).size expected.now end)) }
-    ensures bad { IfErr result (IsWhyNotRead (S.Receipt.state receipt.now) expected.now) }
+) -> Result<Option<Vec<u8>>, RecoverError>
+    ensures bytes { IfOk result (λ found. MayBeCheckpoint (S.Receipt.state receipt.now) expected.now
+        (option_map (λ bytes. bytes.items) found)) }
+    ensures answer { IfErr result IsNoAnswer }
     ensures unchanged { OnlyCounts (S.state store.old) (S.state store.new) }
     ensures faults { Counts (ends_by_fault result) (S.state store.old).faults (S.state store.new).faults }
 {
     let mut bytes = Vec::new(alloc);
-    let header = read_head(alloc, store, receipt, expected, &mut bytes)?;
+    let header = match read_head(alloc, store, receipt, expected, &mut bytes) {
+        Ok(header) => header,
+        Err(RecoverError::BadObject { .. }) => return Ok(None),
+        Err(error) => return Err(error),
+    };
     if header.kind != Kind::Checkpoint {
         return Ok(None);
     }
-    let _rows = read_front(alloc, store, receipt, expected, &header, &mut bytes)?;
-    Ok(Some(header.end_seq))
+    read_whole(alloc, store, receipt, &mut bytes)?;
+    Ok(Some(bytes))
 }
 
-// What is expected of an object of a volume without ancestors, where the end before it is not known.
-fn expected_alone(uuid: Uuid, geometry: &Geometry, number: u64) -> Expected
+// The end of the checkpoint that bytes are under the expected number; none where they are no such. Each of
+// its rows is judged.
+fn end_of_rows(bytes: &[u8], expected: &Expected) -> Option<u64>
+    ensures is { IfSome result (λ end. (rows : List (Extent StoredPlace))
+        × IsCheckpoint bytes.now expected.now end rows) }
+    ensures none { IfNone result ((end : ℕ) (rows : List (Extent StoredPlace))
+        → IsCheckpoint bytes.now expected.now end rows → ⊥) }
+{
+    let Ok(mut rows) = read_checkpoint(bytes, expected) else {
+        return None;
+    };
+    loop {
+        match rows.next_row() {
+            Ok(Some(_)) => {}
+            Ok(None) => return Some(rows.end_seq()),
+            Err(_) => return None,
+        }
+    }
+}
+
+/// What is expected of an object of a volume without ancestors, where the end before it is not known.
+pub(crate) fn expected_alone(uuid: Uuid, geometry: &Geometry, number: u64) -> Expected
     ensures { result ≡ expected_alone (expected_of uuid geometry.now) number }
 {
     Expected {

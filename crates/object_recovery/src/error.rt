@@ -25,6 +25,11 @@ pub enum RecoverError {
     /// number, holds no entries: it is a copy, which is not recovered yet.
     #[error("object {number} holds no entries")]
     NotData { number: u64 },
+    /// No object is bad, and the newest checkpoint maps a sector to the one of this number, which does not
+    /// have it there: it is absent, is no data object or copy of the grammar, or its payload has no such
+    /// place.
+    #[error("object {number} does not have what the newest checkpoint maps to it")]
+    MissingObject { number: u64 },
     /// A call of the store failed, and was counted by it.
     #[error("the store failed")]
     StoreFault,

@@ -3,7 +3,7 @@ ghost use Rattle.lsvd_objstore.specs.Store.{StoreState, ReceiptState, OnlyCounts
 ghost use Rattle.lsvd_fault.specs.Faults.{Counts};
 ghost use Rattle.object_recovery.specs.Faults.{ends_by_fault, IsNoAnswer};
 ghost use Rattle.object_recovery.specs.Read.{AreFirstOf, HasHead, IsReadHeader, IsReadAs, IsReadOf};
-ghost use Rattle.object_recovery.specs.Read.{IsWhyNotRead, IsToldRefused, IsToldEnd};
+ghost use Rattle.object_recovery.specs.Read.{IsWhyNotRead, HasNoHeader, IsToldRefused, IsToldEnd};
 
 use crate::error::RecoverError;
 use lsvd_base::SECTOR_BYTES;
@@ -121,6 +121,7 @@ pub(crate) fn read_head<S: Store>(
     requires { bytes.old.items ≡ [] }
     ensures ok { IfOk result (IsReadHeader (S.Receipt.state receipt.now) expected.now bytes.new.items) }
     ensures bad { IfErr result (IsWhyNotRead (S.Receipt.state receipt.now) expected.now) }
+    ensures none { IfErr result (HasNoHeader (S.Receipt.state receipt.now) expected.now) }
     ensures unchanged { OnlyCounts (S.state store.old) (S.state store.new) }
     ensures faults { Counts (ends_by_fault result) (S.state store.old).faults (S.state store.new).faults }
 {
@@ -130,6 +131,23 @@ pub(crate) fn read_head<S: Store>(
         Ok(header) => Ok(header),
         Err(reason) => Err(bad_object(expected, reason)),
     }
+}
+
+/// Reads on in an object until `bytes`, which are its first (a condition), are all of it.
+pub(crate) fn read_whole<S: Store>(
+    alloc: Global,
+    store: &mut S,
+    receipt: &S::Receipt,
+    bytes: &mut Vec<u8>,
+) -> Result<(), StoreError>
+    requires less { vec_len bytes.old ≤ (S.Receipt.state receipt.now).size }
+    requires first { AreFirstOf (S.Receipt.state receipt.now).told bytes.old.items }
+    ensures count { OnOk result (vec_len bytes.new ≡ (S.Receipt.state receipt.now).size) }
+    ensures first { OnOk result (AreFirstOf (S.Receipt.state receipt.now).told bytes.new.items) }
+    ensures unchanged { OnlyCounts (S.state store.old) (S.state store.new) }
+    ensures faults { Counts (has_failed result) (S.state store.old).faults (S.state store.new).faults }
+{
+    read_up_to(alloc, store, receipt, bytes, receipt.len())
 }
 
 /// Reads the rows of an object whose header was read, with its first bytes (a condition). A checkpoint with

@@ -1,16 +1,23 @@
 ghost use Rattle.std.specs.Prelude.{◌≡◌, None, IsTrue, IfOk, IfErr, IfSome, OnOk};
 ghost use Rattle.lsvd_base.specs.Limits.{is_within_limits};
-ghost use Rattle.lsvd_objstore.specs.Store.{OnlyCounts};
+ghost use Rattle.lsvd_objstore.specs.Objects.{AreNamesOf};
+ghost use Rattle.lsvd_objstore.specs.Store.{StoreState, OnlyCounts};
 ghost use Rattle.lsvd_fault.specs.Faults.{Counts};
+ghost use Rattle.object_uploads.specs.Order.{IsUploads};
+ghost use Rattle.obj_log.specs.State.{ObjLogState};
 ghost use Rattle.obj_log.specs.Changes.{expected_of_volume};
 ghost use Rattle.stopped_volume.specs.Store.{TellsBytes};
 ghost use Rattle.object_recovery.specs.Faults.{ends_by_fault, IsNoAnswer};
 ghost use Rattle.object_recovery.specs.Adoption.{reached_by, ReachesGap, JudgesRest, RefusesRest};
-ghost use Rattle.object_recovery.specs.Adoption.{RecoverListOf};
+ghost use Rattle.object_recovery.specs.Adoption.{RefusesBeside, GoesOnOf, RecoverListOf};
+ghost use Rattle.object_recovery.specs.Checkpoints.{expected_of, IsReadCheckpoint};
+ghost use Rattle.object_recovery.specs.Places.{HasPlacesInside};
+ghost use Rattle.object_recovery.specs.Recovery.{IsListUpTo, IsRefusal};
 ghost use Rattle.object_recovery.specs.Recovering.{RecoverOf};
 
 use crate::adoption::adopt_all;
-use crate::checkpoint::{NewestCheckpoint, newest_checkpoint};
+use crate::beginning::{Beginning, begin_list};
+use crate::checkpoint::{StoredCheckpoint, expected_alone, newest_checkpoint};
 use crate::error::RecoverError;
 use crate::judging::{Reached, judge_past, judge_to_gap};
 use crate::recovered::Recovered;
@@ -36,6 +43,8 @@ use uuid::Uuid;
 ///   it, where that one is of the grammar by itself; past that number it is to be of the grammar by itself.
 /// - `NotData`: none is bad, and the object of this number, before the first missing number, holds no
 ///   entries.
+/// - `MissingObject`: none is bad, and the newest checkpoint maps a sector to the object of this number,
+///   which does not have it there.
 /// - `StoreFault`: a call of the store failed, and was counted by it.
 /// - `OutOfMemory`: memory ran out.
 pub fn recover<S: Store>(
@@ -51,10 +60,11 @@ pub fn recover<S: Store>(
     let names = store.list(alloc, uuid)?;
     a_uuid_has_sixteen_bytes(uuid);
     let base = newest_checkpoint(alloc, store, &geometry, names.as_slice())?;
-    let log = recover_list(alloc, store, uuid, geometry, &base, names.as_slice())?;
+    let checkpoint = base.number;
+    let log = recover_list(alloc, store, uuid, geometry, base, names.as_slice())?;
     Ok(Recovered {
         log,
-        checkpoint: base.number,
+        checkpoint,
         names,
     })
 }
@@ -66,14 +76,72 @@ fn recover_list<S: Store>(
     store: &mut S,
     uuid: Uuid,
     geometry: Geometry,
-    base: &NewestCheckpoint,
+    base: StoredCheckpoint<S::Receipt>,
     names: &[ObjName],
 ) -> Result<ObjLog<S::Receipt>, RecoverError>
-    requires { IsTrue (is_within_limits geometry) }
-    ensures { RecoverListOf (TellsBytes S.Receipt.state) uuid geometry base.now names.now (S.state store.old)
+    requires limits { IsTrue (is_within_limits geometry) }
+    requires read { IsReadCheckpoint (expected_of uuid geometry) base }
+    requires names { AreNamesOf uuid names.now }
+    ensures { RecoverListOf (TellsBytes S.Receipt.state) uuid geometry base names.now (S.state store.old)
         (S.state store.new) result }
 {
-    let mut log = ObjLog::new(alloc, uuid, geometry, base.number, base.end);
+    let reached = Reached {
+        number: base.number,
+        end: Some(base.end),
+        refused: None,
+    };
+    match begin_list(alloc, store, uuid, geometry, base, names)? {
+        Beginning::List(log) => go_on(alloc, store, log, names),
+        Beginning::Missing { number } => {
+            let volume = expected_alone(uuid, &geometry, 0);
+            Err(refuse_beside(alloc, store, &volume, reached, names, number)?)
+        }
+    }
+}
+
+// Why the objects of a volume are refused, whose newest checkpoint was reached, and maps a sector to the
+// object of this number, which does not have it there: for an object past the checkpoint that is bad, or else
+// for that.
+fn refuse_beside<S: Store>(
+    alloc: Global,
+    store: &mut S,
+    volume: &Expected,
+    base: Reached,
+    names: &[ObjName],
+    missing: u64,
+) -> Result<RecoverError, RecoverError>
+    ensures refused { TellsBytes S.Receipt.state
+        → IfOk result (λ error. IfSome (S.state store.old).objects (λ objects.
+        RefusesBeside volume.now objects base names.now missing error)) }
+    ensures refusal { IfOk result IsRefusal }
+    ensures answer { IfErr result IsNoAnswer }
+    ensures unchanged { OnlyCounts (S.state store.old) (S.state store.new) }
+    ensures faults { Counts (ends_by_fault result) (S.state store.old).faults (S.state store.new).faults }
+{
+    let gap = judge_to_gap(alloc, store, volume, base)?;
+    match judge_past(alloc, store, volume, names, &gap)? {
+        Some(refusal) => Ok(refusal.into()),
+        None => Ok(RecoverError::MissingObject { number: missing }),
+    }
+}
+
+// Goes on with a list that begins at the newest checkpoint: its objects are adopted, and the others judged,
+// where these are the names of the objects that there are.
+fn go_on<S: Store>(
+    alloc: Global,
+    store: &mut S,
+    log: ObjLog<S::Receipt>,
+    names: &[ObjName],
+) -> Result<ObjLog<S::Receipt>, RecoverError>
+    requires list { IsListUpTo log.uploads.uuid log.batch.geometry log.uploads.window.last
+        log.uploads.queue.end log }
+    requires limits { IsTrue (is_within_limits log.batch.geometry) }
+    requires order { IsUploads log.uploads }
+    requires places { HasPlacesInside log.batch.geometry.sectors log.uploads.queue }
+    ensures { GoesOnOf (TellsBytes S.Receipt.state) log names.now (S.state store.old) (S.state store.new)
+        result }
+{
+    let mut log = log;
     let left = match adopt_all(alloc, store, &mut log) {
         Ok(left) => left,
         Err(error) => {

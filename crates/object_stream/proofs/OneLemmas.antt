@@ -105,7 +105,7 @@ same_by_get (x ∷ xs) (y ∷ ys) long same =
     cc
 
 -- an owner stands for one sector
-one_sector : (objects : Objects) (uuid_at : ℕ → Option (List ℕ)) (owner : Option Owner) (k : ℕ) (sector other : List ℕ)
+pub one_sector : (objects : Objects) (uuid_at : ℕ → Option (List ℕ)) (owner : Option Owner) (k : ℕ) (sector other : List ℕ)
     → StandsForSector objects uuid_at owner k sector → StandsForSector objects uuid_at owner k other → sector ≡ other
 one_sector objects uuid_at None k sector other a b = a ∙ sym b
 one_sector objects uuid_at (Some owner) k sector other a b =

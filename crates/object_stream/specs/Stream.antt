@@ -87,6 +87,12 @@ end_after end (object ∷ objects) = end_after object.end objects
 abbrev pub end_at : Stream → ℕ → ℕ
 end_at stream number = end_after stream.end (objects_to stream number)
 
+-- the entries that the object of a number has
+abbrev pub entries_in_object : Stream → (number : ℕ) → List Entry
+entries_in_object stream number =
+    let from : ℕ = end_at stream (number - 1) in
+    take (end_at stream number - from) (drop (from - stream.end) stream.entries)
+
 -- the greatest number of a stream
 abbrev pub last_number : Stream → ℕ
 last_number stream = stream.number + length stream.objects

@@ -11,6 +11,7 @@ use Rattle.extent_map.specs.Extents.{is_within}
 use Rattle.object_stream.specs.declared.object.Content.TheVariants.{Data}
 use Rattle.object_stream.specs.declared.object.StreamObject.{StreamObject}
 use Rattle.object_stream.specs.Stream.{Owners, Stream, after_object, after_objects, owners, objects_to, end_after, end_at}
+use Rattle.object_stream.specs.Stream.{entries_in_object}
 use Rattle.object_stream.specs.Stream.{last_number, unsealed, owner_by_change, IsStream}
 use Rattle.object_stream.specs.Changes.{change_at}
 use Rattle.object_stream.specs.Replay.{expected_at}
@@ -21,7 +22,7 @@ use Rattle.volume_maps.specs.Laws.{place_owner}
 use Rattle.object_uploads.specs.State.{UploadsState}
 use Rattle.object_uploads.specs.Order.{IsUploads}
 use Rattle.object_uploads.specs.Changes.{IsAdopted}
-use Rattle.object_uploads.specs.Stream.{HoldsEntries, entries_in_object, IsPlacedIn, AreOfStream}
+use Rattle.object_uploads.specs.Stream.{HoldsEntries, IsPlacedIn, AreOfStream}
 use Rattle.object_uploads.specs.Laws.{with_adopted, AdoptingKeepsStream}
 use Rattle.object_uploads.proofs.PlacedLemmas.{HasSameEntries, both_same, longer, longer_same, objects_same, end_with_objects}
 use Rattle.object_uploads.proofs.KeepLemmas.{owner_of_entries, placed_of_entries}

@@ -28,7 +28,7 @@ seen_by seen true row rest more same = refl
 seen_by seen false row rest more same = same
 
 -- the row of a number but for what a change of rows leaves alone
-row_through : (change : ObjectRow → ObjectRow) (number : ℕ) (rows : List ObjectRow)
+pub row_through : (change : ObjectRow → ObjectRow) (number : ℕ) (rows : List ObjectRow)
     → ((row : ObjectRow) → (change row).number ≡ row.number)
     → row_of number (map change rows) ≡ option_map change (row_of number rows)
 row_through change number [] keeps = refl
@@ -90,7 +90,7 @@ pub removable_is_dead : (number : ℕ) (maps : MapsState) → IsRemovable maps.o
 removable_is_dead number maps removable = (removable.row, removable.stands, removable.unmapped, removable.dead)
 
 -- it is dead yet where the same objects have other live sectors, but it has none
-same_objects_dead : (number : ℕ) (rows : List ObjectRow) (old new : MapsState) → IsDeadIn old number
+pub same_objects_dead : (number : ℕ) (rows : List ObjectRow) (old new : MapsState) → IsDeadIn old number
     → map but_live new.objects.rows ≡ map but_live (old.objects.rows ++ rows) → IsCounted new.settled.rows new.objects
     → live_sectors number new.settled.rows ≡ 0 → IsDeadIn new number
 same_objects_dead number rows old new dead same counted none =

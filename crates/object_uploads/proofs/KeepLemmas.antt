@@ -17,6 +17,7 @@ use Rattle.object_stream.specs.declared.object.Content.TheVariants.{Data, Copy, 
 use Rattle.object_stream.specs.declared.object.StreamObject.{StreamObject}
 use Rattle.object_stream.specs.Changes.{change_at}
 use Rattle.object_stream.specs.Stream.{Owners, Stream, owner_by_change, after_object, after_objects, owners, end_after, end_at}
+use Rattle.object_stream.specs.Stream.{entries_in_object}
 use Rattle.object_stream.specs.Stream.{last_number, objects_to, GoesTo, EndsFollow, IsStream}
 use Rattle.object_stream.specs.Replay.{expected_at}
 use Rattle.object_stream.specs.Laws.{from_object}
@@ -38,7 +39,7 @@ use Rattle.object_uploads.specs.Queue.{SettlesSealed, SettlesObjects}
 use Rattle.upload_window.specs.Window.{WindowState}
 use Rattle.object_uploads.specs.Order.{IsUploads}
 use Rattle.object_uploads.specs.Changes.{index_of, IsPutDone}
-use Rattle.object_uploads.specs.Stream.{AreRows, HoldsEntries, HoldsContent, entries_in_object, IsPlacedIn, IsSealedOf}
+use Rattle.object_uploads.specs.Stream.{AreRows, HoldsEntries, HoldsContent, IsPlacedIn, IsSealedOf}
 use Rattle.object_uploads.specs.Stream.{AreSealedOf, AreOfStream}
 use Rattle.object_uploads.specs.Laws.{JobsKeepStream, DoneKeepsStream, RemovalsKeepStream}
 use Rattle.object_uploads.proofs.PlacedLemmas.{IsPosition, next_position, own_entries, placed_by_change, sealed_after_same}

@@ -25,6 +25,7 @@ pub mod ReceiptLemmas
 pub mod RemovedLemmas
 pub mod DeadLemmas
 pub mod DeadRows
+pub mod UnmappedRows
 pub mod QueueKept
 pub mod QueueRemoved
 pub mod QueueSettled

@@ -13,6 +13,7 @@ use Rattle.object_stream.specs.declared.object.StreamObject.{StreamObject}
 use Rattle.object_stream.specs.declared.owner.Owner.{Owner}
 use Rattle.object_stream.specs.Changes.{change_at, is_put, place_in_payload}
 use Rattle.object_stream.specs.Stream.{Owners, Stream, owner_by_change, source_in, owner_by_copy, after_object, after_objects}
+use Rattle.object_stream.specs.Stream.{entries_in_object}
 use Rattle.object_stream.specs.Stream.{objects_to, end_after, end_at, last_number, EndsFollow, IsStream}
 use Rattle.object_stream.specs.Replay.{expected_at}
 use Rattle.object_stream.proofs.StreamLemmas.{goes_on, end_no_earlier, follow_first}
@@ -23,7 +24,7 @@ use Rattle.object_uploads.specs.declared.rows.SealedRows.{SealedRows}
 use Rattle.object_uploads.specs.declared.rows.SealedRows.TheVariants as sealed_rows
 use Rattle.object_uploads.specs.State.{SealedState}
 use Rattle.object_uploads.specs.Order.{PlaceFits, PlacesFit}
-use Rattle.object_uploads.specs.Stream.{entries_in_object, IsPlacedIn, HoldsOwners, HoldsContent, IsSealedOf, AreSealedOf}
+use Rattle.object_uploads.specs.Stream.{IsPlacedIn, HoldsOwners, HoldsContent, IsSealedOf, AreSealedOf}
 
 -- ---- owners and places up to a number
 

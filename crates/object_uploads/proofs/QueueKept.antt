@@ -18,9 +18,10 @@ use Rattle.volume_maps.specs.Live.{IsCounted}
 use Rattle.object_uploads.specs.State.{NumberedReceipt, QueueState}
 use Rattle.object_uploads.specs.Queue.{receipt_in}
 use Rattle.object_uploads.specs.Receipts.{MayCome}
-use Rattle.object_uploads.specs.Order.{is_out, IsDeadIn, KnowFromCheckpoint}
+use Rattle.object_uploads.specs.Order.{is_out, IsDeadIn, UnmappedAreDead, KnowFromCheckpoint}
 use Rattle.object_uploads.specs.Invariant.{IsKnown}
 use Rattle.object_uploads.proofs.RemovedLemmas.{receipt_numbers, left_by}
+use Rattle.object_uploads.proofs.UnmappedRows.{unmapped_same}
 
 -- ---- what is said of rows, by their numbers
 
@@ -137,8 +138,8 @@ receipts_below number (first ∷ receipts) below =
 pub known_same : (old new : QueueState) → IsKnown old → new.frontier ≡ old.frontier → new.receipts ≡ old.receipts
     → new.removal ≡ old.removal → numbers new.maps.objects.rows ≡ numbers old.maps.objects.rows
     → new.maps.objects.checkpoint ≡ old.maps.objects.checkpoint → IfSome new.removal (IsDeadIn new.maps)
-    → IsCounted new.maps.settled.rows new.maps.objects → IsKnown new
-known_same old new known frontier receipts removal named checkpoint dead counted = record {
+    → UnmappedAreDead new.maps → IsCounted new.maps.settled.rows new.maps.objects → IsKnown new
+known_same old new known frontier receipts removal named checkpoint dead unmapped counted = record {
   order = subst (Climbs 0) (sym named) known.order;
   from_one = renumbered (λ (n : ℕ). 1 ≤ n) old.maps.objects.rows new.maps.objects.rows named known.from_one;
   within = rw frontier
@@ -149,6 +150,7 @@ known_same old new known frontier receipts removal named checkpoint dead counted
   follow = λ number some from most.
       rw receipts (known.follow number (omega (arith, checkpoint)) (omega (arith, checkpoint)) (omega (arith, frontier)));
   removal = dead;
+  unmapped = unmapped;
   counted = counted;
 }
 
@@ -162,7 +164,7 @@ pub known_kept : (old new : QueueState) → IsKnown old → new.frontier ≡ old
 known_kept old new known frontier receipts removal rows checkpoint settled =
     known_same old new known frontier receipts removal (ap numbers rows) checkpoint
     (dead_out old.removal new.removal old.maps new.maps removal (dead_in old.maps new.maps rows) known.removal)
-    (record {
+    (unmapped_same old.maps new.maps rows checkpoint known.unmapped) (record {
       live = rw (rows, settled) known.counted.live;
       known = rw (rows, settled) known.counted.known;
     })
@@ -198,8 +200,9 @@ pub known_more : (old new : QueueState) (number : ℕ) (receipt : ReceiptState) 
     → new.receipts ≡ old.receipts ++ record { number = number; receipt = receipt } ∷ [] → new.removal ≡ old.removal
     → numbers new.maps.objects.rows ≡ numbers old.maps.objects.rows ++ number ∷ []
     → old.frontier ≤ new.frontier → number ≤ new.frontier → new.maps.objects.checkpoint ≤ new.frontier → KnowFromCheckpoint new
-    → ((n : ℕ) → IsDeadIn old.maps n → IsDeadIn new.maps n) → IsCounted new.maps.settled.rows new.maps.objects → IsKnown new
-known_more old new number receipt known newest receipts removal named later within checkpoint follow dead counted =
+    → ((n : ℕ) → IsDeadIn old.maps n → IsDeadIn new.maps n) → UnmappedAreDead new.maps
+    → IsCounted new.maps.settled.rows new.maps.objects → IsKnown new
+known_more old new number receipt known newest receipts removal named later within checkpoint follow dead unmapped counted =
     let rows = old.maps.objects.rows in
     let own : NumberedReceipt = record { number = number; receipt = receipt } in
     let some : 0 < number = omega (arith, newest.above_checkpoint) in
@@ -221,6 +224,7 @@ known_more old new number receipt known newest receipts removal named later with
           ∙ ap (λ out. left_by out (numbers new.maps.objects.rows)) (sym removal)))));
       follow = follow;
       removal = dead_out old.removal new.removal old.maps new.maps removal dead known.removal;
+      unmapped = unmapped;
       counted = counted;
     }
 

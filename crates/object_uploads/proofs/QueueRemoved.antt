@@ -17,6 +17,7 @@ use Rattle.object_uploads.specs.Queue.{receipt_in}
 use Rattle.object_uploads.specs.Removal.{without_receipt, with_receipt_of}
 use Rattle.object_uploads.specs.Order.{is_out, IsDeadIn}
 use Rattle.object_uploads.specs.Invariant.{IsKnown}
+use Rattle.object_uploads.proofs.UnmappedRows.{unmapped_dropped}
 use Rattle.object_uploads.proofs.RemovedLemmas.{receipt_numbers, left_by, all_left, receipt_taken, object_dropped, receipt_back}
 use Rattle.object_uploads.proofs.RemovedLemmas.{receipt_is_out, receipt_there}
 use Rattle.object_uploads.proofs.DeadRows.{dead_has_none, removable_is_dead}
@@ -96,6 +97,7 @@ known_taken old new number known none removable frontier receipts out same =
           others_stay number n old.receipts (λ is. absurd (omega (arith, from, is, removable.below)))
           (known.follow n some from (omega (arith, frontier, most))));
       removal = rw out (removable_is_dead number old.maps removable);
+      unmapped = known.unmapped;
       counted = known.counted;
     })
 
@@ -134,6 +136,7 @@ known_dropped old new number known out frontier receipts none rows checkpoint co
       follow = λ n some from most. rw receipts (
           known.follow n (omega (arith, some, checkpoint)) (omega (arith, from, checkpoint)) (omega (arith, most, frontier)));
       removal = rw none tt;
+      unmapped = unmapped_dropped number old.maps new.maps known.order rows checkpoint known.unmapped;
       counted = counted;
     }
 
@@ -166,6 +169,7 @@ known_back old new number receipt known out frontier receipts none same =
       follow = λ n some from most. rw receipts (
           all_stay number n receipt old.receipts (known.follow n some from (omega (arith, frontier, most))));
       removal = rw none tt;
+      unmapped = known.unmapped;
       counted = known.counted;
     })
 

@@ -21,10 +21,11 @@ use Rattle.volume_maps.specs.Live.{IsCounted, MayGain, but_live, HasSameObjects}
 use Rattle.volume_maps.proofs.TableLemmas.{same_numbers}
 use Rattle.object_uploads.specs.State.{QueueState}
 use Rattle.object_uploads.specs.Queue.{front_of, payload_of, HasSamePlaces, SettlesObject}
-use Rattle.object_uploads.specs.Order.{IsDeadIn}
+use Rattle.object_uploads.specs.Order.{IsDeadIn, UnmappedAreDead}
 use Rattle.object_uploads.specs.Invariant.{IsKnown}
 use Rattle.object_uploads.proofs.DeadRows.{row_still, dead_settled, dead_passed, dead_pinned, numbers_passed, numbers_pinned}
 use Rattle.object_uploads.proofs.DeadRows.{but_pins}
+use Rattle.object_uploads.proofs.UnmappedRows.{unmapped_settled, unmapped_passed, unmapped_found, unmapped_pinned}
 use Rattle.object_uploads.proofs.QueueKept.{next_is_newest, known_same, known_more, follow_more, follow_at, dead_out}
 
 -- ---- a data object is settled
@@ -88,7 +89,9 @@ known_settled old new middle payload front list receipt known frontier receipts 
     known_more old new next receipt known newest receipts removal named (omega (arith, frontier)) (omega (arith, frontier))
     (omega (arith, checkpoint, known.checkpoint, frontier))
     (follow_more old new next receipt known receipts (λ n high most. omega (arith, frontier)) checkpoint)
-    (dead_settled next row list old.maps new.maps known.counted newest.above_rows objects places shortest counted) counted
+    (dead_settled next row list old.maps new.maps known.counted newest.above_rows objects places shortest counted)
+    (unmapped_settled next payload front list old.maps new.maps known.counted newest.above_rows objects places shortest counted
+    known.unmapped) counted
 
 -- ---- a checkpoint is acknowledged
 
@@ -105,7 +108,8 @@ known_passed old new number receipt known newest later frontier receipts removal
     ∙ ap (λ (list : List ℕ). list ++ number ∷ []) (numbers_passed before)) in
     known_more old new number receipt known newest receipts removal named (omega (arith, frontier)) (omega (arith, frontier))
     (omega (arith, checkpoint, frontier)) (follow_at new old.receipts number receipt receipts checkpoint frontier)
-    (dead_passed number old.maps new.maps rows) counted
+    (dead_passed number old.maps new.maps rows)
+    (unmapped_passed number old.maps new.maps rows checkpoint newest.above_rows) counted
 
 -- ---- an object is found
 
@@ -122,16 +126,17 @@ known_found old new number payload front receipt known newest within frontier re
     known_more old new number receipt known newest receipts removal named (omega (arith, frontier)) (omega (arith, frontier))
     (omega (arith, checkpoint, known.checkpoint, frontier))
     (follow_more old new number receipt known receipts (λ n high most. absurd (omega (arith, frontier))) checkpoint)
-    (λ n dead. (dead.0, ap (row_of n) rows ∙ row_still n before (row ∷ []) dead.0 dead.1, dead.2, dead.3)) counted
+    (λ n dead. (dead.0, ap (row_of n) rows ∙ row_still n before (row ∷ []) dead.0 dead.1, dead.2, dead.3))
+    (unmapped_found number payload front old.maps new.maps rows checkpoint known.unmapped) counted
 
 -- ---- the same objects, with other live sectors or pins
 
 pub known_mapped : (old new : QueueState) → IsKnown old → new.frontier ≡ old.frontier → new.receipts ≡ old.receipts
     → new.removal ≡ old.removal → old.removal ≡ None → HasSameObjects old.maps.objects new.maps.objects
-    → IsCounted new.maps.settled.rows new.maps.objects → IsKnown new
-known_mapped old new known frontier receipts removal none same counted =
+    → UnmappedAreDead new.maps → IsCounted new.maps.settled.rows new.maps.objects → IsKnown new
+known_mapped old new known frontier receipts removal none same unmapped counted =
     known_same old new known frontier receipts removal (same_numbers old.maps.objects new.maps.objects same) same.checkpoint
-    (subst (λ o. IfSome o (IsDeadIn new.maps)) (sym (removal ∙ none)) tt) counted
+    (subst (λ o. IfSome o (IsDeadIn new.maps)) (sym (removal ∙ none)) tt) unmapped counted
 
 pub known_pinned : (change : ObjectRow → ObjectRow) (number : ℕ) (old new : QueueState)
     → ((r : ObjectRow) → but_pins (change r) ≡ but_pins r) → IsKnown old → new.frontier ≡ old.frontier
@@ -143,7 +148,7 @@ known_pinned change number old new keeps known frontier receipts removal same co
     (numbers_pinned change number old.maps.objects new.maps.objects keeps same)
     (ap (λ (t : TableState). t.checkpoint) same)
     (dead_out old.removal new.removal old.maps new.maps removal (dead_pinned change number old.maps new.maps keeps same)
-    known.removal) counted
+    known.removal) (unmapped_pinned change number old.maps new.maps keeps same known.unmapped) counted
 
 -- ---- an object is settled in maps whose room changed before
 

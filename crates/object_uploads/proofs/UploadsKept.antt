@@ -22,6 +22,7 @@ use Rattle.object_uploads.specs.Queue.{with_at, just_sealed, with_spare, with_re
 use Rattle.object_uploads.specs.Queue.{HasSamePlaces, IsSettledBy, IsNextSettled, FirstWaits, sealed_at}
 use Rattle.object_uploads.specs.Order.{AreOpen, AreKnown, IsUploads, IsDeadIn, PlacesFit, PlacesFitIn}
 use Rattle.object_uploads.specs.Invariant.{IsOpenAt, IsKnown, KeepsAllButObjects, KeepsAllButFound}
+use Rattle.object_uploads.proofs.UnmappedRows.{unmapped_same}
 use Rattle.object_uploads.proofs.QueueLemmas.{length-with}
 use Rattle.object_uploads.proofs.OpenLemmas.{open_push, open_marked, open_done, open_dropped, waits_with, waits_pushed, below_by}
 use Rattle.object_uploads.proofs.BegunLemmas.{AreAtIfBegun, IsAtIfBegun, begun_pushed, begun_without, begun_later, begun_failed}
@@ -49,6 +50,7 @@ known_named uuid queue known named = record {
   named = named;
   follow = known.follow;
   removal = known.removal;
+  unmapped = known.unmapped;
   counted = known.counted;
 }
 
@@ -84,6 +86,7 @@ are_known_same uuid old new known frontier receipts removal same = record {
   named = rw receipts known.named;
   follow = rw (receipts, same.checkpoint, frontier) known.follow;
   removal = rw removal (dead_same old.maps new.maps old.removal same known.removal);
+  unmapped = unmapped_same old.maps new.maps same.objects same.checkpoint known.unmapped;
   counted = counted_same old.maps new.maps same known.counted;
 }
 
@@ -101,6 +104,8 @@ are_known_entered uuid old new known frontier receipts removal settled objects =
   follow = rw (receipts, objects, frontier) known.follow;
   removal = rw removal (subst (λ (t : TableState). IfSome old.removal (IsDeadIn (record new.maps { objects = t })))
       (sym objects) (dead_entered old.maps new.maps old.removal known.removal));
+  unmapped = unmapped_same old.maps new.maps (ap (λ (t : TableState). t.rows) objects)
+      (ap (λ (t : TableState). t.checkpoint) objects) known.unmapped;
   counted = rw (settled, objects) known.counted;
 }
 
@@ -339,6 +344,8 @@ uploads_begin uuid sectors queue window low sealed receipts removal settled obje
         named = rw receipts (All-nil (IsNamed uuid));
         follow = λ number some from to. absurd (omega (arith, some, checkpoint));
         removal = rw removal tt;
+        unmapped = λ number is.
+            (let none : None ≡ Some is.0 = sym (ap (row_of number) objects) ∙ is.1 in absurd cc);
         counted = record {
           live = rw (settled, objects) (All-nil (λ (object : ObjectRow). object.live ≡ live_sectors object.number []));
           known = rw settled (All-nil _);

@@ -16,7 +16,7 @@ use Rattle.lsvd_objstore.specs.Store.{ReceiptState}
 use Rattle.object_uploads.specs.State.{SealedState, NumberedReceipt, QueueState}
 use Rattle.object_uploads.specs.Queue.{receipt_in}
 use Rattle.object_uploads.specs.Removal.{without_receipt}
-use Rattle.object_uploads.specs.Order.{is_out, IsDeadIn, KnowFromCheckpoint}
+use Rattle.object_uploads.specs.Order.{is_out, IsDeadIn, UnmappedAreDead, KnowFromCheckpoint}
 
 -- the object at an index is not acknowledged, and has its bytes a second time or not
 abbrev pub IsOpenAt : ℕ → List SealedState → (has_spare : Bool) → Type 0
@@ -61,6 +61,7 @@ pub record IsKnown (queue : QueueState) : Type 0 where
       ≡ filter (λ number. not (is_out queue.removal number)) (numbers queue.maps.objects.rows)
   pub follow : KnowFromCheckpoint queue
   pub removal : IfSome queue.removal (IsDeadIn queue.maps)
+  pub unmapped : UnmappedAreDead queue.maps
   pub counted : IsCounted queue.maps.settled.rows queue.maps.objects
 
 -- ---- what calls change

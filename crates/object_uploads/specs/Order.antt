@@ -59,6 +59,16 @@ abbrev pub IsDeadIn : MapsState → (number : ℕ) → Type 0
 IsDeadIn maps number =
     (row : ObjectRow) × (row_of number maps.objects.rows ≡ Some row) × IsTrue row.is_unmapped × (row.live ≡ 0)
 
+-- an object of the table is one that the newest acknowledged checkpoint passed and does not map
+abbrev pub IsUnmappedIn : MapsState → (number : ℕ) → Type 0
+IsUnmappedIn maps number =
+    (row : ObjectRow) × (row_of number maps.objects.rows ≡ Some row) × IsTrue row.is_unmapped
+
+-- each such object is dead, and has a lower number than that checkpoint
+abbrev pub UnmappedAreDead : MapsState → Type 0
+UnmappedAreDead maps =
+    (number : ℕ) → IsUnmappedIn maps number → IsDeadIn maps number × (number < maps.objects.checkpoint)
+
 -- It is known what the store gave for each object from the newest acknowledged checkpoint on up to the frontier, where there is
 -- such a checkpoint.
 abbrev pub KnowFromCheckpoint : QueueState → Type 0
@@ -68,7 +78,8 @@ KnowFromCheckpoint queue =
 
 -- The table has objects from number 1 up to the frontier alone, as the newest acknowledged checkpoint is, by ascending number.
 -- What the store gave, each under its object's name, is for just these, but for one whose removal is out, which nothing maps; and
--- it has those from that checkpoint on. The table counts the live sectors.
+-- it has those from that checkpoint on. The table counts the live sectors, of which none is in what that checkpoint passed and
+-- does not map.
 pub record AreKnown (uuid : List ℕ) (queue : QueueState) : Type 0 where
   pub order : Climbs 0 (numbers queue.maps.objects.rows)
   pub from_one : All (λ (object : ObjectRow). 1 ≤ object.number) queue.maps.objects.rows
@@ -79,6 +90,7 @@ pub record AreKnown (uuid : List ℕ) (queue : QueueState) : Type 0 where
   pub named : All (λ (r : NumberedReceipt). r.receipt.name ≡ numbered_name uuid r.number) queue.receipts
   pub follow : KnowFromCheckpoint queue
   pub removal : IfSome queue.removal (IsDeadIn queue.maps)
+  pub unmapped : UnmappedAreDead queue.maps
   pub counted : IsCounted queue.maps.settled.rows queue.maps.objects
 
 -- ---- places

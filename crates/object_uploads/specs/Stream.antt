@@ -10,7 +10,7 @@ use Rattle.object_stream.specs.declared.object.Content.{Content}
 use Rattle.object_stream.specs.declared.object.Content.TheVariants.{Data, Checkpoint}
 use Rattle.object_stream.specs.declared.object.StreamObject.{StreamObject}
 use Rattle.object_stream.specs.Changes.{change_at, change_in, place_in_payload}
-use Rattle.object_stream.specs.Stream.{Stream, Owners, owners, after_object, end_at, last_number, IsStream}
+use Rattle.object_stream.specs.Stream.{Stream, Owners, owners, after_object, end_at, last_number, IsStream, entries_in_object}
 use Rattle.object_stream.specs.Replay.{HasParts, expected_at}
 use Rattle.object_stream.specs.Laws.{from_object}
 use Rattle.volume_maps.specs.declared.place.ObjectPlace.{ObjectPlace}
@@ -41,12 +41,6 @@ pub record HoldsEntries (expected : Expected) (entries : List Entry) (end : ℕ)
   pub rows_are : AreRows rows_of list
   pub ends : header.end_seq ≡ end
   pub changes : (k : ℕ) → change_in list payload k ≡ change_at entries k
-
--- the entries that the object of a number has in a stream
-abbrev pub entries_in_object : Stream → (number : ℕ) → List Entry
-entries_in_object stream number =
-    let from : ℕ = end_at stream (number - 1) in
-    take (end_at stream number - from) (drop (from - stream.end) stream.entries)
 
 -- A place is where an object of the stream has a sector in its payload. Of the objects that the stream opens with nothing is
 -- said.

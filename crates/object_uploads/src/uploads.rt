@@ -85,6 +85,7 @@ impl<R: Receipt> Uploads<R> {
         ensures log { result.queue.maps.log.rows ≡ [] }
         ensures objects { result.queue.maps.objects.rows ≡ [] }
         ensures checkpoint { result.queue.maps.objects.checkpoint ≡ 0 }
+        ensures order { IsUploads result }
     {
         Uploads {
             uuid,
@@ -261,6 +262,7 @@ impl<R: Receipt> Uploads<R> {
         requires no_removal { self.old.queue.removal ≡ None }
         ensures begun { OnOk result (HasBegun (R.state receipt) self.old self.new) }
         ensures same { OnErr result (IsNotSealed self.old self.new) }
+        ensures order { IsUploads self.new }
     {
         self.queue.begin(receipt)
     }

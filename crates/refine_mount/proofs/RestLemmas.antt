@@ -144,12 +144,10 @@ cut_image plain number =
 
 pub recovered_shows_objects : RecoveredShowsObjects
 recovered_shows_objects uuid data_at size plain number objects log valid has list recovered =
-    let entries = take (end_of_object number plain - plain.end) plain.entries in
-    let image = cut_image plain number ∙ ap (λ opening. after opening entries) has.blank_is in
     record {
       geometry = list.geometry_is;
       stream = recovered.streams.of_stream data_at;
       window = list.window ∙ ap (λ n. record { last = n; objects = [] }) recovered.number_is;
-      image = subst (λ i. HasImage i log.uploads.queue) (sym image) recovered.streams.image;
+      image = subst (λ i. HasImage i log.uploads.queue) (sym (cut_image plain number)) recovered.streams.image;
       receipts = recovered.streams.receipts;
     }

@@ -122,24 +122,16 @@ mounted_has_objects uuid plain found number objects valid has =
       opened = has.opened;
       alone = cut_keeps_first plain number (max (end_of_object number plain) found.head.seq) plain.geometry
           (mounted_with found number plain).cache has.alone;
-      blank_is = has.blank_is;
       stored = record {
+        own = has.stored.own;
         valid = valid.stream;
+        sectors = has.stored.sectors;
         stored = record {
           checkpoint = stored.checkpoint;
           checkpoints = stored.checkpoints;
           missing = stored.missing;
           base = stored.base;
-          based = record {
-            bytes = stored.based.bytes;
-            present = stored.based.present;
-            header = stored.based.header;
-            payload = stored.based.payload;
-            parts = stored.based.parts;
-            ends = stored.based.ends;
-            none = stored.based.none;
-          };
-          value = stored.value;
+          opens = record { is = stored.opens.is; value = stored.opens.value };
           last = omega (arith, count);
           stored =
               subst (AreStored objects has.uuid_at volume plain.number plain.end (take many plain.entries)) (sym same)

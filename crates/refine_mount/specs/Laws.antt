@@ -70,7 +70,7 @@ RecoveredShowsObjects =
     (uuid : List ℕ) (data_at : ℕ → ℕ) (size : ℕ) (plain : PlainState) (number : ℕ) (objects : Objects) (log : ObjLogState)
     → IsPlainVolume plain → HasObjects uuid plain number objects
     → IsListUpTo uuid (sizes_with size plain.geometry) log.uploads.window.last log.uploads.queue.end log
-    → HasRecovered plain.geometry.sectors (stream_in plain) number log
+    → HasRecovered plain.opening (stream_in plain) number log
     → ShowsObjects data_at log (mounted_without size number plain)
 
 -- each list that was recovered shows some plain volume that is at rest, also where no bytes are told

@@ -17,6 +17,7 @@ use Rattle.object_stream.specs.Changes.{change_at, change_in}
 use Rattle.object_stream.specs.Laws.{from_object}
 use Rattle.object_stream.specs.Replay.{HasParts, expected_at}
 use Rattle.object_stream.specs.Stream.{Stream, Owners, owners, after_object, end_after, end_at, last_number, EndsFollow}
+use Rattle.object_stream.specs.Stream.{entries_in_object}
 use Rattle.object_stream.proofs.StreamLemmas.{keeps_owners}
 use Rattle.upload_window.specs.declared.object.OpenObject.{OpenObject}
 use Rattle.upload_window.specs.Window.{WindowState}
@@ -34,7 +35,7 @@ use Rattle.plain_disk.specs.State.{PlainState, stream_in}
 use Rattle.plain_disk.specs.Valid.{IsPlainVolume}
 use Rattle.plain_disk.proofs.EndLemmas.{ends_from, ends_grow}
 use Rattle.refine_objects.specs.Shows.{ShowsObjects}
-use Rattle.refine_store.specs.Puts.{entries_in_object, IsObjectOf}
+use Rattle.refine_store.specs.Puts.{IsObjectOf}
 use Rattle.refine_store.specs.Laws.{JobIsObject}
 use Rattle.refine_store.proofs.ObjectLemmas.{get_of_rest, past_both, end_up_to, data_object, entries_at, entries_past_first}
 use Rattle.refine_store.proofs.ObjectLemmas.{entries_of_first}

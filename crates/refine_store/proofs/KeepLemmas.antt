@@ -11,7 +11,7 @@ use Rattle.object_stream.specs.declared.object.Content.TheVariants.{Data, Checkp
 use Rattle.object_stream.specs.declared.object.StreamObject.{StreamObject}
 use Rattle.object_stream.specs.Changes.{change_at}
 use Rattle.object_stream.specs.Replay.{HasParts, expected_at}
-use Rattle.object_stream.specs.Stream.{end_after, end_at, last_number}
+use Rattle.object_stream.specs.Stream.{end_after, end_at, last_number, entries_in_object}
 use Rattle.upload_window.specs.Window.{entered}
 use Rattle.plain_disk.specs.declared.event.PlainEvent.{PlainEvent}
 use Rattle.plain_disk.specs.declared.event.PlainEvent.TheVariants.{Write, Zero, Flush, Look, Release, Seal, TakeJob, JobDone}
@@ -28,7 +28,7 @@ use Rattle.plain_disk.specs.Valid.{IsPlainVolume}
 use Rattle.plain_disk.proofs.EndLemmas.{ends_grow, ends_within, ends_from}
 use Rattle.plain_disk.proofs.FlushLemmas.{events_keep_committed}
 use Rattle.refine_mount.specs.Mounted.{end_of_object, mounted_with, mounted_without}
-use Rattle.refine_store.specs.Puts.{entries_in_object, IsObjectOf}
+use Rattle.refine_store.specs.Puts.{IsObjectOf}
 use Rattle.refine_store.specs.Laws.{EventsKeepObject, MountsKeepObject}
 use Rattle.refine_store.proofs.ObjectLemmas.{get_of_first, same_part}
 

@@ -1,21 +1,24 @@
 -- Whatever a stop leaves of the store has the plain volume's objects up to the one before the first missing number, and so the
 -- volume up to there.
-use Rattle.std.proofs.Common.{◌≡◌, ℕ, zero, suc, ◌+◌, ◌-◌, ◌^◌, ◌<◌, ◌==◌, inl, inr, Bool, true, false, cond, ◌&&◌, ◌||◌, Option}
-use Rattle.std.proofs.Common.{Some}
-use Rattle.std.proofs.Common.{None, is_some, List, [], ◌∷◌, take, get_or, refl, sym, ◌∙◌, ap, subst, arith}
-use Rattle.std.specs.Prelude.{IsTrue}
+use Rattle.std.proofs.Common.{◌≡◌, ℕ, ◌+◌, ◌-◌, ◌<◌, ◌≤◌, ◌==◌, inl, inr, Bool, true, false, cond, ◌&&◌, ◌||◌, Option, Some}
+use Rattle.std.proofs.Common.{is_some, List, [], ◌∷◌, length, take, get_or, refl, sym, ◌∙◌, ap, subst, arith}
+use Rattle.std.specs.Prelude.{IsTrue, nat_lt}
 use Rattle.std.specs.List.{slice_get, list_any, All}
 use Rattle.std.proofs.lemmas.Bool.{cases_lt}
 use Rattle.std.proofs.lemmas.Bool.Decides.{nat_tests}
 use Rattle.std.proofs.lemmas.List.{length-take}
 use Rattle.std.proofs.lemmas.List.Elements.{All-weaker}
 use Rattle.std.proofs.lemmas.Option.{slice_get-get_or}
-use Rattle.lsvd_base.specs.Image.{zero_sector, blank}
 use Rattle.lsvd_base.specs.Laws.{EndsBy}
 use Rattle.lsvd_base.specs.Range.{is_in_range}
 use Rattle.lsvd_objstore.specs.Objects.{Objects, found}
 use Rattle.object_format.specs.declared.expected.Expected.{Expected}
+use Rattle.object_format.specs.declared.header.Header.{Header}
+use Rattle.object_format.specs.declared.kind.Kind.TheVariants as kinds
 use Rattle.object_format.specs.declared.rows.Rows.TheVariants as rows_of
+use Rattle.object_format.specs.Header.{IsObjectHeader}
+use Rattle.ckpt_format.specs.Checkpoint.{checkpoint_header}
+use Rattle.ckpt_format.proofs.CheckpointLemmas.{header_of_both}
 use Rattle.object_stream.specs.declared.object.Content.{Content}
 use Rattle.object_stream.specs.declared.object.Content.TheVariants.{Data}
 use Rattle.object_stream.specs.declared.object.StreamObject.{StreamObject}
@@ -23,11 +26,11 @@ use Rattle.object_stream.specs.Landed.{Numbers, IsFirstMissing}
 use Rattle.object_stream.specs.Replay.{object_name, HasParts, expected_at}
 use Rattle.object_stream.specs.Stored.{HasContent}
 use Rattle.object_stream.specs.Stream.{Owners, Stream, objects_to, end_at}
-use Rattle.object_stream.specs.Value.{StandsForSector, IsValue}
-use Rattle.object_stream.proofs.OneLemmas.{same_parts}
 use Rattle.upload_window.specs.declared.object.OpenObject.{OpenObject}
 use Rattle.upload_window.specs.Window.{WindowState, has_number, was_started, IsAcknowledged}
-use Rattle.stopped_volume.specs.Objects.{landed_in, expected_alone, IsCheckpointOf, AreCheckpoints, IsWhole, AreWholePast}
+use Rattle.stopped_volume.specs.Expected.{expected_alone}
+use Rattle.stopped_volume.specs.Objects.{landed_in, AreCheckpoints, IsWhole, AreWholePast}
+use Rattle.stopped_volume.specs.Opening.{IsCheckpointOf}
 use Rattle.stopped_volume.specs.Store.{PutState, MayHoldPut}
 use Rattle.stopped_volume.specs.Store.PutState.{Acknowledged, Begun, NotBegun}
 use Rattle.stopped_volume.specs.Laws.{HasStreamUpTo}
@@ -36,7 +39,7 @@ use Rattle.object_recovery.specs.Checkpoints.{expected_of}
 use Rattle.plain_disk.specs.State.{PlainState, stream_in}
 use Rattle.plain_disk.specs.Stops.{recovered_number}
 use Rattle.plain_disk.specs.Valid.{IsPlainVolume, MayLand}
-use Rattle.plain_disk.proofs.Overlaid.{EndsBy-in_range, sectors_limit}
+use Rattle.plain_disk.proofs.Overlaid.{EndsBy-in_range}
 use Rattle.plain_disk.proofs.FirstLemmas.{checkpoint_is_first, first_may_land}
 use Rattle.plain_disk.proofs.StopLemmas.{recovers_before_missing, recovers_sealed}
 use Rattle.refine_mount.specs.Found.{HasObjects}
@@ -82,22 +85,20 @@ acknowledged_put window number is =
 
 -- a checkpoint is no data object
 no_data : (volume : Expected) (plain : PlainState) (objects : Objects) (number end : ℕ) (owned : Owners) (bytes : List ℕ)
-    → volume.sectors < 2 ^ 64
     → IsCheckpointOf volume objects number end owned → found objects (object_name volume number) ≡ Some bytes
     → IsObjectOf volume plain number bytes → ⊥
-no_data volume plain objects number end owned bytes wide is there data_is =
-    let same : is.bytes ≡ bytes = let e = is.present in cc in
-    let one =
-    same_parts (expected_alone volume number) (expected_at volume number (end_at (stream_in plain) (number - 1)))
-    is.bytes bytes is.header data_is.header
-    rows_of.Checkpoint (rows_of.Data data_is.rows) is.payload data_is.payload wide wide same is.parts data_is.parts in
-    one.same_rows
-
--- a blank image has zeros
-blank_at : (sectors k : ℕ) (sector : List ℕ) → slice_get (blank sectors) k ≡ Some sector → sector ≡ zero_sector
-blank_at zero k sector at = absurd (cc)
-blank_at (suc sectors) zero sector at = let same : zero_sector ≡ sector = cc in sym same
-blank_at (suc sectors) (suc k) sector at = blank_at sectors k sector at
+no_data volume plain objects number end owned bytes is there data_is =
+    let same : bytes ≡ is.bytes = let e = is.present in cc in
+    let alone : Expected = expected_alone volume number in
+    let after : Expected = expected_at volume number (end_at (stream_in plain) (number - 1)) in
+    let head : IsObjectHeader is.bytes (length is.bytes) after data_is.header =
+    subst (λ b. IsObjectHeader b (length b) after data_is.header) same data_is.parts.is_object.head in
+    let one : checkpoint_header alone end (length is.rows) ≡ data_is.header =
+    header_of_both is.bytes (length is.bytes) alone after (checkpoint_header alone end (length is.rows)) data_is.header
+    is.is_checkpoint.head head in
+    let kind : kinds.Checkpoint ≡ data_is.header.kind = ap (λ (h : Header). h.kind) one in
+    let data_kind : kinds.Data ≡ data_is.header.kind = data_is.parts.is_object.rows_are.kind in
+    cc
 
 -- ---- what is left
 
@@ -112,9 +113,6 @@ module _ (uuid : List ℕ) (epoch : ℕ) (plain : PlainState) (puts : ℕ → Op
 
   abbrev landed : Numbers
   landed = landed_in objects volume
-
-  wide : plain.geometry.sectors < 2 ^ 64
-  wide = omega (arith, sectors_limit plain.geometry valid.limits)
 
   -- an object past the checkpoint that has landed is the plain volume's
   landed_object : (number : ℕ) → plain.number < number → IsTrue (landed number)
@@ -143,14 +141,25 @@ module _ (uuid : List ℕ) (epoch : ℕ) (plain : PlainState) (puts : ℕ → Op
       (left.held.puts_are number (state_of_put plain.window number) known.0 past known.1) in
       ap is_some held
 
+  -- the checkpoint at which the volume opens is there, and so is each object before it
+  opening_landed : IsTrue (landed plain.number)
+  opening_landed = ap is_some left.opens.is.checkpoint.present
+
+  up_to_opening : (number : ℕ) → 0 < number → number ≤ plain.number → IsTrue (landed number)
+  up_to_opening number some to =
+      elim (cases_lt number plain.number) [
+        | inl low ↦ left.lower.there number some low
+        | inr from ↦
+            let same : plain.number ≡ number = omega (arith, to, from) in
+            subst (λ n. IsTrue (landed n)) same opening_landed
+      ]
+
   may_land : MayLand plain landed
   may_land =
       first_may_land plain landed left.alone
       (λ number some is. elim (cases_lt plain.number number) [
         | inl past ↦ acknowledged_landed number past is
-        | inr low ↦
-            let same : plain.number ≡ number = omega (arith, left.opened_first) in
-            subst (λ n. IsTrue (landed n)) same (ap is_some left.first.present)
+        | inr to ↦ up_to_opening number some to
       ])
       (λ number over there.
       let past : plain.number < number = omega (arith, valid.last) in
@@ -160,35 +169,7 @@ module _ (uuid : List ℕ) (epoch : ℕ) (plain : PlainState) (puts : ℕ → Op
   abbrev number : ℕ
   number = recovered_number landed plain
 
-  -- ---- the checkpoint
-
-  abbrev is_first : Numbers
-  is_first other = other == plain.number
-
-  missing : IsFirstMissing is_first landed (number + 1)
-  missing =
-      recovers_before_missing plain landed is_first valid may_land
-      (λ other from. ap (λ n. other == n) (sym left.opened) ∙ sym (checkpoint_is_first plain other left.alone))
-
-  base_is : missing.base ≡ plain.number
-  base_is = let is : (missing.base == plain.number) ≡ true = missing.newest.is_checkpoint in grind (arith, nat_tests)
-
-  first_checkpoint : (other : ℕ) → other ≡ plain.number → (end : ℕ) × (owned : Owners)
-      × IsCheckpointOf volume objects other end owned
-  first_checkpoint other same =
-      (plain.end, stream.opening, subst (λ n. IsCheckpointOf volume objects n plain.end stream.opening) (sym same) left.first)
-
-  only_checkpoint : (other end : ℕ) (owned : Owners) → IsCheckpointOf volume objects other end owned → other ≡ plain.number
-  only_checkpoint other end owned is =
-      elim (cases_lt other plain.number) [
-        | inl low ↦ let none = left.none_lower other low in let there = is.present in absurd (cc)
-        | inr from ↦ elim (cases_lt plain.number other) [
-          | inl past ↦
-              let object = landed_object other past (ap is_some is.present) in
-              absurd (no_data volume plain objects other end owned object.0 wide is object.1 object.2)
-          | inr to ↦ omega arith
-        ]
-      ]
+  -- ---- the checkpoints
 
   same_test : (a b : ℕ) → (a == b) ≡ true → a ≡ b
   same_test a b is = grind (arith, nat_tests)
@@ -196,16 +177,78 @@ module _ (uuid : List ℕ) (epoch : ℕ) (plain : PlainState) (puts : ℕ → Op
   test_same : (a b : ℕ) → a ≡ b → (a == b) ≡ true
   test_same a b is = grind (arith, nat_tests)
 
-  checkpoints : AreCheckpoints volume objects is_first
-  checkpoints other = (
-    (λ is. first_checkpoint other (same_test other plain.number is)),
-    (λ there. test_same other plain.number (only_checkpoint other there.0 there.1 there.2)),
+  lower_test : (a b : ℕ) → a < b → nat_lt a b ≡ true
+  lower_test a b is = grind (arith, nat_tests)
+
+  no_lower_test : (a b : ℕ) → b ≤ a → nat_lt a b ≡ false
+  no_lower_test a b is = grind (arith, nat_tests)
+
+  -- those that the store has: the one at which the volume opens, and some of the objects before it
+  abbrev checkpoint : Numbers
+  checkpoint other = cond (nat_lt other plain.number) (left.lower.checkpoint other) (other == plain.number)
+
+  checkpoint_below : (other : ℕ) → other < plain.number → checkpoint other ≡ left.lower.checkpoint other
+  checkpoint_below other low =
+      ap (λ b. cond b (left.lower.checkpoint other) (other == plain.number)) (lower_test other plain.number low)
+
+  checkpoint_from : (other : ℕ) → plain.number ≤ other → checkpoint other ≡ (other == plain.number)
+  checkpoint_from other from =
+      ap (λ b. cond b (left.lower.checkpoint other) (other == plain.number)) (no_lower_test other plain.number from)
+
+  missing : IsFirstMissing checkpoint landed (number + 1)
+  missing =
+      recovers_before_missing plain landed checkpoint valid may_land
+      (λ other from.
+      checkpoint_from other (omega (arith, left.opened, from))
+      ∙ ap (λ n. other == n) (sym left.opened) ∙ sym (checkpoint_is_first plain other left.alone))
+
+  base_is : missing.base ≡ plain.number
+  base_is =
+      elim (cases_lt missing.base plain.number) [
+        | inl low ↦
+            let opens : IsTrue (checkpoint plain.number) =
+            checkpoint_from plain.number (omega arith) ∙ test_same plain.number plain.number refl in
+            absurd (omega (arith, low, missing.newest.newest plain.number opens opening_landed))
+        | inr from ↦
+            same_test missing.base plain.number (sym (checkpoint_from missing.base from) ∙ missing.newest.is_checkpoint)
+      ]
+
+  first_checkpoint : (other : ℕ) → other ≡ plain.number → (end : ℕ) × (owned : Owners)
+      × IsCheckpointOf volume objects other end owned
+  first_checkpoint other same = (
+    plain.end,
+    stream.opening,
+    subst (λ n. IsCheckpointOf volume objects n plain.end stream.opening) (sym same) left.opens.is.checkpoint,
   )
+
+  no_later : (other end : ℕ) (owned : Owners) → plain.number ≤ other → IsCheckpointOf volume objects other end owned
+      → other ≡ plain.number
+  no_later other end owned from is =
+      elim (cases_lt plain.number other) [
+        | inl past ↦
+            let object = landed_object other past (ap is_some is.present) in
+            absurd (no_data volume plain objects other end owned object.0 is object.1 object.2)
+        | inr to ↦ omega (arith, from, to)
+      ]
+
+  checkpoints : AreCheckpoints volume objects checkpoint
+  checkpoints other =
+      elim (cases_lt other plain.number) [
+        | inl low ↦
+            let same = checkpoint_below other low in
+            let below = left.lower.checkpoints other low in
+            ((λ is. below.0 (sym same ∙ is)), (λ there. same ∙ below.1 there))
+        | inr from ↦
+            let same = checkpoint_from other from in (
+              (λ is. first_checkpoint other (same_test other plain.number (sym same ∙ is))),
+              (λ there. same ∙ test_same other plain.number (no_later other there.0 there.1 from there.2)),
+            )
+      ]
 
   -- ---- the objects past it
 
   abbrev uuid_at : ℕ → Option (List ℕ)
-  uuid_at level = cond (level == 0) (Some uuid) None
+  uuid_at = left.uuid_at
 
   -- how many of the objects have landed
   abbrev count : ℕ
@@ -267,11 +310,6 @@ module _ (uuid : List ℕ) (epoch : ℕ) (plain : PlainState) (puts : ℕ → Op
       let g = plain.geometry in
       All-weaker (λ entry. is_in_range g entry ≡ true) (EndsBy g.sectors) (EndsBy-in_range g) plain.entries valid.in_range
 
-  value : IsValue objects uuid_at stream.opening (blank plain.geometry.sectors)
-  value k sector at =
-      subst (λ owner. StandsForSector objects uuid_at owner k sector) (sym (left.first.none k))
-      (blank_at plain.geometry.sectors k sector at)
-
   -- each object past it is the plain volume's too, so it is whole
   past : AreWholePast volume objects number
   past other bytes after there =
@@ -281,14 +319,13 @@ module _ (uuid : List ℕ) (epoch : ℕ) (plain : PlainState) (puts : ℕ → Op
       subst (IsWhole (expected_alone volume other)) same
       (is_whole volume other (end_at stream (other - 1)) object.0 is.header (rows_of.Data is.rows) is.payload is.parts)
 
-  stored : HasStreamUpTo volume uuid_at objects stream (blank plain.geometry.sectors) number
+  stored : HasStreamUpTo volume uuid_at objects stream plain.opening number
   stored = record {
-    checkpoint = is_first;
+    checkpoint = checkpoint;
     checkpoints = checkpoints;
     missing = missing;
     base = base_is;
-    based = left.first;
-    value = value;
+    opens = left.opens;
     last = recovers_sealed plain landed valid;
     stored = stored_by_each objects uuid_at volume count plain.number plain.end plain.entries plain.objects
         valid.stream.ends is_stored;
@@ -300,8 +337,14 @@ module _ (uuid : List ℕ) (epoch : ℕ) (plain : PlainState) (puts : ℕ → Op
     uuid_at = uuid_at;
     opened = left.opened;
     alone = left.alone;
-    blank_is = left.blank_is;
-    stored = record { valid = valid.stream; stored = stored; hold_data = hold_data; inside = inside };
+    stored = record {
+      own = left.own;
+      valid = valid.stream;
+      sectors = valid.sectors;
+      stored = stored;
+      hold_data = hold_data;
+      inside = inside;
+    };
   }
 
 pub left_has_objects : LeftHasObjects
@@ -312,6 +355,5 @@ pub left_has_volume : LeftHasVolume
 left_has_volume uuid epoch plain puts objects valid are left = record {
   described = left.described;
   objects_are = has_objects uuid epoch plain puts objects valid are left;
-  opened_first = left.opened_first;
-  none_lower = left.none_lower;
+  lower = left.lower;
 }

@@ -145,10 +145,10 @@ module _ (uuid : List ℕ) (epoch : ℕ) (plain : PlainState) (number : ℕ) (ob
       described = has_with_log uuid plain.geometry epoch objects log has.described;
       opened = has.objects_are.opened;
       alone = cut_keeps_first plain number count (sizes_with log plain.geometry) cache has.objects_are.alone;
-      opened_first = has.opened_first;
-      blank_is = has.objects_are.blank_is;
-      first = has.objects_are.stored.stored.based;
-      none_lower = has.none_lower;
+      uuid_at = has.objects_are.uuid_at;
+      own = has.objects_are.stored.own;
+      opens = record { is = has.objects_are.stored.stored.opens.is; value = has.objects_are.stored.stored.opens.value };
+      lower = has.lower;
       held = record {
         puts_are = λ other state bytes past is. may_hold (found objects (object_name volume other))
             state bytes is;
@@ -226,10 +226,10 @@ stands_with_any_cache uuid epoch plain cache uploads objects stands =
         described = stands.left.described;
         opened = stands.left.opened;
         alone = first_with plain plain.entries cache plain.pins stands.left.alone;
-        opened_first = stands.left.opened_first;
-        blank_is = stands.left.blank_is;
-        first = stands.left.first;
-        none_lower = stands.left.none_lower;
+        uuid_at = stands.left.uuid_at;
+        own = stands.left.own;
+        opens = stands.left.opens;
+        lower = stands.left.lower;
         held = stands.left.held;
       };
       sealed = stands.sealed;

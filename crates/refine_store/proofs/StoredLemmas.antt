@@ -15,9 +15,9 @@ use Rattle.object_stream.specs.declared.object.StreamObject.{StreamObject}
 use Rattle.object_stream.specs.Changes.{change_at, change_in}
 use Rattle.object_stream.specs.Replay.{object_name, HasParts, expected_at}
 use Rattle.object_stream.specs.Stored.{HasContent, IsObjectStored, AreStored}
-use Rattle.object_stream.specs.Stream.{Stream, end_after, end_at, EndsFollow}
+use Rattle.object_stream.specs.Stream.{Stream, end_after, end_at, EndsFollow, entries_in_object}
 use Rattle.plain_disk.specs.State.{PlainState, stream_in}
-use Rattle.refine_store.specs.Puts.{entries_in_object, IsObjectOf}
+use Rattle.refine_store.specs.Puts.{IsObjectOf}
 use Rattle.refine_store.proofs.ObjectLemmas.{end_up_to, data_object, entries_at, entries_past_first, entries_of_first}
 
 -- ---- objects that are stored

@@ -1,9 +1,7 @@
 -- Contract: the bytes of a plain volume's objects, how far their puts have come, and what a stop leaves of them in a store.
-use Rattle.std.specs.Prelude.{◌≡◌, ℕ, ◌+◌, ◌-◌, ◌<◌, ◌≤◌, Option, Some, None, if◌then◌else◌, List, take, drop}
+use Rattle.std.specs.Prelude.{◌≡◌, ℕ, ◌+◌, ◌-◌, ◌<◌, ◌≤◌, ◌↔◌, IsTrue, Option, Some, None, if◌then◌else◌, List}
 use Rattle.std.specs.List.{slice_get, list_any}
 use Rattle.std.specs.Global.{Vec}
-use Rattle.lsvd_base.specs.declared.entry.Entry.{Entry}
-use Rattle.lsvd_base.specs.Image.{blank}
 use Rattle.lsvd_objstore.specs.Objects.{Objects, found}
 use Rattle.object_format.specs.declared.data_row.DataRow.{DataRow}
 use Rattle.object_format.specs.declared.expected.Expected.{Expected}
@@ -11,10 +9,12 @@ use Rattle.object_format.specs.declared.header.Header.{Header}
 use Rattle.object_format.specs.declared.rows.Rows.TheVariants as rows_of
 use Rattle.object_stream.specs.declared.object.Content.TheVariants.{Data}
 use Rattle.object_stream.specs.Changes.{change_at, change_in}
-use Rattle.object_stream.specs.Stream.{Stream, end_at}
+use Rattle.object_stream.specs.Landed.{Numbers}
+use Rattle.object_stream.specs.Stream.{Owners, end_at, entries_in_object}
 use Rattle.object_stream.specs.Replay.{object_name, HasParts, expected_at}
 use Rattle.upload_window.specs.Window.{WindowState, has_number, was_started}
-use Rattle.stopped_volume.specs.Objects.{IsCheckpointOf}
+use Rattle.stopped_volume.specs.Objects.{landed_in}
+use Rattle.stopped_volume.specs.Opening.{IsCheckpointOf, HasOpening}
 use Rattle.stopped_volume.specs.Super.{HasVolume}
 use Rattle.stopped_volume.specs.Store.{PutState, MayHoldPuts}
 use Rattle.stopped_volume.specs.Store.PutState.{Acknowledged, Begun, NotBegun}
@@ -23,12 +23,6 @@ use Rattle.plain_disk.specs.First.{HasFirstCheckpointAlone}
 use Rattle.object_recovery.specs.Checkpoints.{expected_of}
 
 -- ---- the bytes of an object
-
--- the entries that the object of a number has
-abbrev pub entries_in_object : Stream → ℕ → List Entry
-entries_in_object stream number =
-    let from : ℕ = end_at stream (number - 1) in
-    take (end_at stream number - from) (drop (from - stream.end) stream.entries)
 
 -- Bytes are those of a plain volume's data object of a number: of the grammar, going on where the object before it ends, and they
 -- do to each sector what the object's entries do.
@@ -65,17 +59,25 @@ pub record ArePuts (volume : Expected) (plain : PlainState) (puts : ℕ → Opti
 
 -- ---- a stop
 
--- What a stop may leave of the store of a plain volume, which opens blank at its newest checkpoint, the only one: its super
--- object and its epochs, of which this is the newest, that checkpoint, and of each later object what its put allows. Each volume
--- opens at object 1, and none of its objects has a lower number.
+-- What a store has of a volume's objects before the one at which it opens, where none was ever given out for removal: each from
+-- object 1 on. Some of them may be checkpoints.
+pub record HasLower (volume : Expected) (opening : ℕ) (objects : Objects) : Type 0 where
+  pub none : found objects (object_name volume 0) ≡ None
+  pub there : (number : ℕ) → 0 < number → number < opening → IsTrue (landed_in objects volume number)
+  pub checkpoint : Numbers
+  pub checkpoints : (number : ℕ) → number < opening
+      → IsTrue (checkpoint number) ↔ ((end : ℕ) × (owned : Owners) × IsCheckpointOf volume objects number end owned)
+
+-- What a stop may leave of the store of a plain volume that opens at its newest checkpoint, and makes none: its super object and
+-- its epochs, of which this is the newest, that checkpoint, with each sector that it maps, each earlier object, and of each later
+-- one what its put allows.
 pub record MayBeLeft (uuid : List ℕ) (epoch : ℕ) (plain : PlainState) (puts : ℕ → Option (PutState × List ℕ))
     (objects : Objects) : Type 0 where
   pub described : HasVolume uuid plain.geometry epoch objects
   pub opened : plain.checkpoint.number ≡ plain.number
   pub alone : HasFirstCheckpointAlone plain
-  pub opened_first : plain.number ≡ 1
-  pub blank_is : plain.opening ≡ blank plain.geometry.sectors
-  pub first : IsCheckpointOf (expected_of uuid plain.geometry) objects plain.number plain.end (stream_in plain).opening
-  pub none_lower : (number : ℕ) → number < plain.number
-      → found objects (object_name (expected_of uuid plain.geometry) number) ≡ None
+  pub uuid_at : ℕ → Option (List ℕ)
+  pub own : uuid_at 0 ≡ Some uuid
+  pub opens : HasOpening (expected_of uuid plain.geometry) uuid_at objects (stream_in plain) plain.opening
+  pub lower : HasLower (expected_of uuid plain.geometry) plain.number objects
   pub held : MayHoldPuts (expected_of uuid plain.geometry) puts plain.number objects

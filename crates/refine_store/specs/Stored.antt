@@ -4,7 +4,6 @@ use Rattle.std.specs.Prelude.{◌≡◌, ℕ, ◌<◌, Option, Some, None, List}
 use Rattle.lsvd_names.specs.Names.{numbered_name}
 use Rattle.lsvd_objstore.specs.Objects.{Objects, found}
 use Rattle.object_recovery.specs.Checkpoints.{expected_of}
-use Rattle.object_stream.specs.Replay.{object_name}
 use Rattle.object_uploads.specs.State.{UploadsState}
 use Rattle.object_uploads.specs.Queue.{HasBytesAt}
 use Rattle.object_uploads.specs.Changes.{index_of}
@@ -13,11 +12,12 @@ use Rattle.stopped_volume.specs.Store.{PutState}
 use Rattle.stopped_volume.specs.Store.PutState.{Begun}
 use Rattle.stopped_volume.specs.Super.{HasVolume}
 use Rattle.refine_mount.specs.Found.{HasObjects}
-use Rattle.refine_store.specs.Puts.{ArePuts, MayBeLeft}
+use Rattle.refine_store.specs.Puts.{ArePuts, HasLower, MayBeLeft}
 
 -- A store stands for a plain volume, whose objects on their way are these: it has the volume in this epoch, the checkpoint at
--- which the volume opens, and each object that is acknowledged, which is the plain volume's. One whose put was begun is absent or
--- has just the bytes that were sealed, which are the plain volume's object too, and no other object is there.
+-- which the volume opens, each object before that, and each later one that is acknowledged, which is the plain volume's. One of
+-- which the put was begun is absent or has just the bytes that were sealed, which are the plain volume's object too, and no other
+-- object is there.
 pub record StoreStands (uuid : List ℕ) (epoch : ℕ) (plain : PlainState) (uploads : UploadsState) (objects : Objects) :
     Type 0 where
   pub puts : ℕ → Option (PutState × List ℕ)
@@ -27,12 +27,11 @@ pub record StoreStands (uuid : List ℕ) (epoch : ℕ) (plain : PlainState) (upl
       → HasBytesAt (index_of uploads number) uploads.queue.sealed bytes
 
 -- A store has a plain volume up to its object of a number, that before the first missing one: the volume in this epoch, and its
--- objects from the first on up to there, with none below. What it has past them is for a mount to remove.
+-- objects up to there, those before the one at which it opens too. What it has past them is for a mount to remove.
 pub record HasVolumeUpTo (uuid : List ℕ) (epoch : ℕ) (plain : PlainState) (number : ℕ) (objects : Objects) : Type 0 where
   pub described : HasVolume uuid plain.geometry epoch objects
   pub objects_are : HasObjects uuid plain number objects
-  pub opened_first : plain.number ≡ 1
-  pub none_lower : (other : ℕ) → other < plain.number → found objects (object_name (expected_of uuid plain.geometry) other) ≡ None
+  pub lower : HasLower (expected_of uuid plain.geometry) plain.number objects
 
 -- it has none of the volume's objects past a number
 abbrev pub HasNonePast : (uuid : List ℕ) → (number : ℕ) → Objects → Type 0

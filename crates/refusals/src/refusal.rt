@@ -28,6 +28,11 @@ pub enum Refusal {
     /// the first missing number, holds no entries. It is a copy, which is not recovered yet.
     #[error("object {number} holds no entries")]
     NotData { number: u64 },
+    /// 4, with the reason 9, which no bytes of an object have: the newest checkpoint maps a sector to the
+    /// object of this number, which does not have it there. It is absent, is no data object or copy of the
+    /// grammar, or its payload has no such place.
+    #[error("object {number} does not have what the newest checkpoint maps to it")]
+    MissingObject { number: u64 },
     /// 5: the device is the cache of this volume in another epoch than the newest that the store has: a mount
     /// without the cache came between.
     #[error("the device is of epoch {cache}, and the store of epoch {store}")]
@@ -56,6 +61,9 @@ pub enum Refusal {
     Worn { value: u64 },
 }
 
+// The reason that is told of a missing object: those of bad objects go to 8.
+const MISSING: u64 = 9;
+
 /// What is told with the number of a refusal.
 #[derive(Clone, Copy, Debug, PartialEq, Eq)]
 pub enum Values {
@@ -78,7 +86,9 @@ impl Refusal {
             Refusal::NoVolume => 1,
             Refusal::BadSuper { .. } => 2,
             Refusal::NoCheckpoint => 3,
-            Refusal::BadObject { .. } | Refusal::NotData { .. } => 4,
+            Refusal::BadObject { .. } | Refusal::NotData { .. } | Refusal::MissingObject { .. } => {
+                4
+            }
             Refusal::StaleCache { .. } => 5,
             Refusal::WrongVolume { .. } => 6,
             Refusal::NoSlot { .. } => 7,
@@ -100,6 +110,7 @@ impl Refusal {
                 Values::Two(number, u64::from(reason.code()))
             }
             Refusal::NotData { number } => Values::Two(number, u64::from(BadObject::Kind.code())),
+            Refusal::MissingObject { number } => Values::Two(number, MISSING),
             Refusal::StaleCache { cache, store } => Values::Two(cache, store),
             Refusal::WrongVolume { found } => Values::Volume(found),
             Refusal::NoSlot { log } => Values::One(log),

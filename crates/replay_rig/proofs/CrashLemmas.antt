@@ -22,7 +22,7 @@ use Rattle.lsvd_objstore.specs.Memory.{Kept}
 use Rattle.lsvd_objstore.specs.Objects.{Objects, found, IsPut}
 use Rattle.lsvd_objstore.specs.Store.{Becomes}
 use Rattle.object_uploads.specs.State.{UploadsState}
-use Rattle.stopped_volume.specs.Objects.{IsCheckpointOf}
+use Rattle.stopped_volume.specs.Opening.{IsCheckpointOf}
 use Rattle.super_recovery.proofs.LawLemmas.{next_epoch_is_begun}
 use Rattle.object_recovery.specs.Checkpoints.{expected_of}
 use Rattle.commit_slot.specs.Slots.{log_of}
@@ -127,15 +127,13 @@ new_first : (geometry : Geometry) (uploads : UploadsState) (new : Objects)
     → StoreStands script_uuid 0 (created_volume geometry) uploads new
     → IsCheckpointOf (expected_of script_uuid geometry) new 1 0 (λ k. None)
 new_first geometry uploads new stands =
-    let first = stands.left.first in
+    let first = stands.left.opens.is.checkpoint in
     record {
       bytes = first.bytes;
       present = first.present;
-      header = first.header;
-      payload = first.payload;
-      parts = first.parts;
-      ends = first.ends;
-      none = λ k. refl;
+      rows = first.rows;
+      is_checkpoint = first.is_checkpoint;
+      says = first.says;
     }
 
 new_alone : (geometry : Geometry) (uploads : UploadsState) (new : Objects) (number : ℕ)
@@ -144,7 +142,9 @@ new_alone : (geometry : Geometry) (uploads : UploadsState) (new : Objects) (numb
 new_alone geometry uploads new number stands other =
     elim (cases_lt 1 number) [
       | inl past ↦ stands.left.held.none_else number past (stands.are.none_else number past)
-      | inr low ↦ stands.left.none_lower number (omega (arith, low, other))
+      | inr low ↦
+          let none : number ≡ 0 = omega (arith, low, other) in
+          ap (λ n. found new (numbered_name script_uuid n)) none ∙ stands.left.lower.none
     ]
 
 pub new_volume : (geometry : Geometry) (disk : DiskState) (volume : SteppedVolume) (old new : Objects)

@@ -12,7 +12,8 @@ use Rattle.lsvd_names.specs.declared.name.ObjName.{ObjName}
 use Rattle.object_stream.specs.Landed.{Numbers}
 use Rattle.object_stream.specs.declared.owner.Owner.{Owner}
 use Rattle.object_stream.specs.Stream.{last_number}
-use Rattle.stopped_volume.specs.Objects.{landed_in, IsCheckpointOf}
+use Rattle.stopped_volume.specs.Objects.{landed_in}
+use Rattle.stopped_volume.specs.Opening.{IsCheckpointOf, HasOpening}
 use Rattle.stopped_volume.specs.Store.{PutState, MayHoldPut}
 use Rattle.stopped_volume.specs.Store.PutState.{Acknowledged, Begun, NotBegun}
 use Rattle.upload_window.specs.declared.object.OpenObject.{OpenObject}
@@ -20,11 +21,13 @@ use Rattle.upload_window.specs.Window.{WindowState, IsAcknowledged, has_number, 
 use Rattle.plain_disk.specs.State.{PlainState, PlainCheckpoint, stream_in}
 use Rattle.plain_disk.specs.Stops.{landed_after, recovered_number}
 use Rattle.plain_disk.proofs.FirstLemmas.{landed_is_first}
-use Rattle.refine_store.specs.Puts.{IsObjectOf, state_of_put, AreBytesOfPut, ArePuts, MayBeLeft}
+use Rattle.refine_store.specs.Puts.{IsObjectOf, state_of_put, AreBytesOfPut, ArePuts, HasLower, MayBeLeft}
+use Rattle.refine_store.proofs.LowerLemmas.{lower_of_first}
+use Rattle.vol_recover.proofs.BlankLemmas.{uuid_alone, opens_blank}
 use Rattle.transcript.specs.Letters.{under_way, has_landed, landed_by}
 use Rattle.replay_rig.specs.Puts.{PutView}
 use Rattle.replay_rig.specs.Rig.{RigState, script_uuid, expected_of_plain, AreUnderWay, IsFirstUnderWay, HasBytesOfObject}
-use Rattle.replay_rig.specs.Rig.{ShowsPlain, LandsAs, Lands}
+use Rattle.replay_rig.specs.Rig.{OpensBlank, ShowsPlain, LandsAs, Lands}
 use Rattle.replay_rig.proofs.Describing.{lands_keep_volume}
 use Rattle.replay_rig.proofs.Stepped.{all_puts}
 use Rattle.replay_rig.proofs.WindowLemmas.{under_way_numbers}
@@ -409,11 +412,9 @@ checkpoint_stays rig plain letters new h lands =
     record {
       bytes = first.bytes;
       present = unlanded rig plain letters new 1 h lands (λ within. absurd (omega (arith, within.0))) ∙ first.present;
-      header = first.header;
-      payload = first.payload;
-      parts = first.parts;
-      ends = first.ends;
-      none = first.none;
+      rows = first.rows;
+      is_checkpoint = first.is_checkpoint;
+      says = first.says;
     }
 
 -- the puts that are known
@@ -448,32 +449,44 @@ may_hold plain state known bytes told held is holds =
     ap (λ (o : Option (PutState × List ℕ)). unwrap_or o (state, bytes)) is in
     subst (λ (p : PutState × List ℕ). MayHoldPut p.0 p.1 held) same holds
 
+-- a volume that opens blank has its opening, where the first object stands
+opens_there : (plain : PlainState) (objects : Objects) → OpensBlank plain
+    → IsCheckpointOf (expected_of_plain plain) objects 1 0 (λ k. None)
+    → HasOpening (expected_of_plain plain) (uuid_alone script_uuid) objects (stream_in plain) plain.opening
+opens_there plain objects opens first =
+    let volume = expected_of_plain plain in
+    let none : (k : ℕ) → (stream_in plain).opening k ≡ None =
+    λ k. ap (λ (os : List (Option Owner)). slice_index_or os k None) opens.owned in
+    let moved : IsCheckpointOf volume objects plain.number plain.end (λ k. None) =
+    subst (λ n. IsCheckpointOf volume objects n plain.end (λ k. None)) (sym opens.number)
+    (subst (λ e. IsCheckpointOf volume objects 1 e (λ k. None)) (sym opens.end) first) in
+    let there : IsCheckpointOf volume objects plain.number plain.end (stream_in plain).opening =
+    record {
+      bytes = moved.bytes;
+      present = moved.present;
+      rows = moved.rows;
+      is_checkpoint = moved.is_checkpoint;
+      says = λ k. none k ∙ moved.says k;
+    } in
+    subst (HasOpening volume (uuid_alone script_uuid) objects (stream_in plain)) (sym opens.opening)
+    (opens_blank volume (uuid_alone script_uuid) objects (stream_in plain) plain.geometry.sectors there none)
+
 pub may_be_left : (rig : RigState) (plain : PlainState) (letters : List ℕ) (new : Objects) → (h : ShowsPlain rig plain)
     → Lands rig.puts letters rig.objects new
     → MayBeLeft script_uuid h.epoch plain (puts_now plain rig.puts new) new
 may_be_left rig plain letters new h lands =
     let opens = h.opens in
     let first = opens.number in
-    let stays = checkpoint_stays rig plain letters new h lands in
     record {
       described = lands_keep_volume rig.puts letters rig.objects new plain.geometry h.epoch lands h.described;
       opened = opens.checkpoint ∙ sym opens.number;
       alone = h.shows.alone;
-      opened_first = opens.number;
-      blank_is = opens.opening;
-      first = subst (λ k. IsCheckpointOf (expected_of_plain plain) new k plain.end (stream_in plain).opening)
-          (sym opens.number) (record {
-            bytes = stays.bytes;
-            present = stays.present;
-            header = stays.header;
-            payload = stays.payload;
-            parts = stays.parts;
-            ends = stays.ends ∙ sym opens.end;
-            none = λ k. ap (λ (os : List (Option Owner)). slice_index_or os k None) opens.owned;
-          });
-      none_lower = λ n lower.
-          let e : n ≡ 0 = omega (arith, lower, first) in
-          ap (λ k. found new (numbered_name script_uuid k)) e ∙ none_first rig plain letters new h lands;
+      uuid_at = uuid_alone script_uuid;
+      own = refl;
+      opens = opens_there plain new opens (checkpoint_stays rig plain letters new h lands);
+      lower =
+          subst (λ n. HasLower (expected_of_plain plain) n new) (sym first)
+          (lower_of_first (expected_of_plain plain) new (none_first rig plain letters new h lands));
       held = record {
         puts_are = λ n state bytes past is. elim (cases_lt plain.window.last n) [
           | inl late ↦

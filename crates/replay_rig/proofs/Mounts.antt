@@ -23,7 +23,8 @@ use Rattle.cache_log.specs.declared.row.Row.{Row}
 use Rattle.cache_log.specs.Log.{LogState}
 use Rattle.cache_log.specs.Opening.{AreRecordsInRange}
 use Rattle.cache_log.specs.Committed.{IsOnDisk}
-use Rattle.stopped_volume.specs.Objects.{landed_in, IsCheckpointOf}
+use Rattle.stopped_volume.specs.Objects.{landed_in}
+use Rattle.stopped_volume.specs.Opening.{IsCheckpointOf}
 use Rattle.stopped_volume.specs.Super.{HasVolume}
 use Rattle.upload_window.specs.Window.{IsAcknowledged}
 use Rattle.plain_disk.specs.declared.log.PlainCommit.{PlainCommit}
@@ -107,7 +108,7 @@ low_left rig plain letters new greatest end h lands few extent =
           (none_past rig plain letters new greatest h lands late) extent.present)
       | inr low ↦ omega (arith, low, most, few)
     ] in
-    let ends = extent.end_is low has.uuid_at (stream_in plain) (number_left new plain) has.stored in
+    let ends = extent.end_is low has.uuid_at (stream_in plain) plain.opening (number_left new plain) has.stored in
     let last = h.shows.valid.last in
     let most_left = left_within plain new h.shows.valid in
     let within = ends_within plain (number_left new plain) h.shows.valid (omega (arith, most_left, last)) in
@@ -316,11 +317,9 @@ module _ (rig : RigState) (plain : PlainState) (letters : List ℕ) (new after :
       record {
         bytes = first.bytes;
         present = removed.stay 1 first_low ∙ first.present;
-        header = first.header;
-        payload = first.payload;
-        parts = first.parts;
-        ends = first.ends;
-        none = first.none;
+        rows = first.rows;
+        is_checkpoint = first.is_checkpoint;
+        says = first.says;
       }
 
   recovered_there : (n : ℕ) → 1 < n → n ≤ number

@@ -22,7 +22,7 @@ use Rattle.object_uploads.specs.Changes.{IsOut, IsJobOf}
 use Rattle.object_uploads.proofs.UploadsKept.{frontier_below}
 use Rattle.obj_log.specs.State.{ObjLogState}
 use Rattle.obj_log.specs.Changes.{expected_of_volume}
-use Rattle.stopped_volume.specs.Objects.{IsCheckpointOf}
+use Rattle.stopped_volume.specs.Opening.{IsCheckpointOf}
 use Rattle.stopped_volume.specs.Super.{HasVolume}
 use Rattle.upload_window.specs.declared.object.OpenObject.{OpenObject}
 use Rattle.upload_window.specs.Window.{WindowState, Ascends, IsAcknowledged, has_number, below_lowest, below_open, is_ready}
@@ -472,11 +472,9 @@ first_stays volume n bytes old new uuid past put first =
     record {
       bytes = first.bytes;
       present = subst (λ u. found new (numbered_name u 1) ≡ found old (numbered_name u 1)) (sym uuid) other ∙ first.present;
-      header = first.header;
-      payload = first.payload;
-      parts = first.parts;
-      ends = first.ends;
-      none = first.none;
+      rows = first.rows;
+      is_checkpoint = first.is_checkpoint;
+      says = first.says;
     }
 
 stored_done : (n : ℕ) (bytes : List ℕ) (plain next : PlainState) (old new : Objects) → GrowsByOne plain next

@@ -17,7 +17,7 @@ use Rattle.refine_log.specs.Pending.{ShowsPending}
 use Rattle.refine_store.specs.Puts.{IsObjectOf}
 use Rattle.refine_store.proofs.KeepLemmas.{events_keep_object}
 use Rattle.object_recovery.specs.Checkpoints.{expected_of}
-use Rattle.stopped_volume.specs.Objects.{IsCheckpointOf}
+use Rattle.stopped_volume.specs.Opening.{IsCheckpointOf}
 use Rattle.stopped_volume.specs.Super.{HasVolume}
 use Rattle.vol_core.specs.declared.event.Event.{Event}
 use Rattle.vol_core.specs.declared.reply.Reply.{Reply}

@@ -9,8 +9,8 @@ use Rattle.vol_core.specs.declared.reply.EntryRefusal.TheVariants as refusals
 use Rattle.vol_core.specs.declared.reply.Reply.{Reply}
 use Rattle.vol_core.specs.declared.reply.Reply.TheVariants as told
 use Rattle.replay_rig.specs.declared.answer.Answer.{Answer}
-use Rattle.replay_rig.specs.declared.answer.Answer.TheVariants.{Created, Entries, Sectors, Sealed, Put, Done, Failed, Counts}
-use Rattle.replay_rig.specs.declared.answer.Answer.TheVariants.{Stopping, Mounted, BatchFull, EntriesFull, NoRoom, Range, Nothing}
+use Rattle.replay_rig.specs.declared.answer.Answer.TheVariants.{Entries, Sectors, Sealed, Put, Done, Counts}
+use Rattle.replay_rig.specs.declared.answer.Answer.TheVariants.{BatchFull, EntriesFull, NoRoom, Range, Nothing}
 use Rattle.replay_rig.specs.declared.answer.Answer.TheVariants.{Busy, Fault}
 
 -- the answer that says a reply of the plain volume; those to a plan that is given back, to a put that fails, and to removals are

@@ -10,7 +10,7 @@ use Rattle.lsvd_device.specs.Stop.{left_in_order, IsStopped, HasNow}
 use Rattle.lsvd_device.specs.declared.fate.Fate.{Fate}
 use Rattle.lsvd_objstore.specs.Objects.{Objects, found, IsPut}
 use Rattle.commit_slot.specs.Slots.{log_of}
-use Rattle.stopped_volume.specs.Objects.{IsCheckpointOf}
+use Rattle.stopped_volume.specs.Opening.{IsCheckpointOf}
 use Rattle.stopped_volume.specs.Super.{HasVolume}
 use Rattle.plain_disk.specs.declared.log.PlainCommit.{PlainCommit}
 use Rattle.plain_disk.specs.State.{PlainState, created_volume}

@@ -9,7 +9,8 @@ use Rattle.lsvd_objstore.specs.Objects.{Objects, found, IsPut}
 use Rattle.object_format.specs.declared.expected.Expected.{Expected}
 use Rattle.object_stream.specs.Replay.{object_name}
 use Rattle.stopped_volume.specs.Device.{CacheOwner, owner_with}
-use Rattle.stopped_volume.specs.Objects.{landed_in, IsCheckpointOf}
+use Rattle.stopped_volume.specs.Objects.{landed_in}
+use Rattle.stopped_volume.specs.Opening.{IsCheckpointOf}
 use Rattle.stopped_volume.specs.Super.{HasVolume}
 use Rattle.upload_window.specs.declared.object.OpenObject.{OpenObject}
 use Rattle.upload_window.specs.Window.{IsAcknowledged}

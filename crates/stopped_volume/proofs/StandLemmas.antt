@@ -5,14 +5,19 @@ use Rattle.std.proofs.lemmas.Bool.{cases_lt}
 use Rattle.std.proofs.lemmas.List.{length-take}
 use Rattle.lsvd_objstore.specs.Objects.{Objects}
 use Rattle.object_format.specs.declared.expected.Expected.{Expected}
+use Rattle.object_format.specs.declared.header.Header.{Header}
 use Rattle.object_stream.specs.Stream.{Owners, Stream, owners, objects_to, end_at, last_number}
 use Rattle.object_stream.specs.Landed.{Numbers, IsFirstMissing}
 use Rattle.object_stream.specs.Replay.{Replays}
 use Rattle.object_stream.proofs.ReplayLemmas.{stored_are_replayed}
 use Rattle.object_stream.proofs.StreamLemmas.{follow_first}
 use Rattle.object_stream.proofs.ValueLemmas.{value_is_image_after}
-use Rattle.object_stream.proofs.OneLemmas.{same_parts, replays_as_one, has_one_value}
-use Rattle.stopped_volume.specs.Objects.{IsCheckpointOf, AreCheckpoints}
+use Rattle.object_stream.proofs.OneLemmas.{replays_as_one, has_one_value}
+use Rattle.ckpt_format.specs.Checkpoint.{IsCheckpoint}
+use Rattle.ckpt_format.proofs.LawLemmas.{has_one_reading}
+use Rattle.stopped_volume.specs.Expected.{expected_alone}
+use Rattle.stopped_volume.specs.Opening.{owned_by, IsCheckpointOf, IsOpening}
+use Rattle.stopped_volume.specs.Objects.{AreCheckpoints}
 use Rattle.stopped_volume.specs.Laws.{StandForOneVolume, StandForHistory}
 
 -- what has landed is not missing
@@ -40,13 +45,30 @@ module _ (volume : Expected) (objects : Objects) (a b landed : Numbers) (are_a :
         | inr from ↦ from
       ]
 
--- a checkpoint of the store has one end
-one_end : (volume : Expected) (objects : Objects) (number end other : ℕ) (owned others : Owners) → volume.sectors < 2 ^ 64
-    → IsCheckpointOf volume objects number end owned → IsCheckpointOf volume objects number other others → end ≡ other
-one_end volume objects number end other owned others wide a b =
+-- a checkpoint of the store has one list of rows
+same_rows : (volume : Expected) (objects : Objects) (number end other : ℕ) (owned others : Owners)
+    → (a : IsCheckpointOf volume objects number end owned) → (b : IsCheckpointOf volume objects number other others)
+    → (end ≡ other) × (a.rows ≡ b.rows)
+same_rows volume objects number end other owned others a b =
     let same_bytes : a.bytes ≡ b.bytes = let e = a.present in let f = b.present in cc in
-    let one = same_parts _ _ a.bytes b.bytes a.header b.header _ _ a.payload b.payload wide wide same_bytes a.parts b.parts in
-    sym a.ends ∙ ap (λ h. h.end_seq) one.headers ∙ b.ends
+    let moved = subst (λ bytes. IsCheckpoint bytes (expected_alone volume number) other b.rows) (sym same_bytes)
+    b.is_checkpoint in
+    let one = has_one_reading a.bytes (expected_alone volume number) (expected_alone volume number) end other a.rows b.rows
+    a.is_checkpoint moved in
+    (ap (λ (h : Header). h.end_seq) one.0, one.1)
+
+-- so it has one end, and one owner of each sector
+one_end : (volume : Expected) (objects : Objects) (number end other : ℕ) (owned others : Owners)
+    → IsCheckpointOf volume objects number end owned → IsCheckpointOf volume objects number other others → end ≡ other
+one_end volume objects number end other owned others a b = (same_rows volume objects number end other owned others a b).0
+
+same_owners : (volume : Expected) (objects : Objects) (number end other : ℕ) (owned others : Owners)
+    → IsCheckpointOf volume objects number end owned → IsCheckpointOf volume objects number other others
+    → (k : ℕ) → owned k ≡ others k
+same_owners volume objects number end other owned others a b k =
+    a.says k
+    ∙ ap (λ rows. owned_by rows k) (same_rows volume objects number end other owned others a b).1
+    ∙ sym (b.says k)
 
 pub stand_for_one : StandForOneVolume
 stand_for_one volume uuid_at objects image other number other_number end other_end wide long a b =
@@ -62,9 +84,9 @@ stand_for_one volume uuid_at objects image other number other_number end other_e
     let base : a.missing.base ≡ b.missing.base = omega arith in
     let count : number - a.missing.base ≡ other_number - b.missing.base = omega arith in
     let A : ℕ → Type 0 = λ n. IsCheckpointOf volume objects n b.base_end b.owned in
-    let moved : IsCheckpointOf volume objects a.missing.base b.base_end b.owned = subst A (sym base) b.based in
-    let ends : a.base_end ≡ b.base_end = one_end volume objects a.missing.base a.base_end b.base_end a.owned b.owned wide
-    a.based moved in
+    let moved : IsCheckpointOf volume objects a.missing.base b.base_end b.owned = subst A (sym base) b.opening.checkpoint in
+    let ends : a.base_end ≡ b.base_end = one_end volume objects a.missing.base a.base_end b.base_end a.owned b.owned
+    a.opening.checkpoint moved in
     let R : ℕ → Type 0 = λ n. Replays objects volume n b.base_end b.owned (other_number - b.missing.base) other_end b.owners in
     let S : ℕ → Type 0 = λ e. Replays objects volume a.missing.base e b.owned (other_number - b.missing.base) other_end
     b.owners in
@@ -72,7 +94,8 @@ stand_for_one volume uuid_at objects image other number other_number end other_e
     let replay = subst T (sym count) (subst S (sym ends) (subst R (sym base) b.replayed)) in
     let one = replays_as_one objects volume a.missing.base a.base_end a.owned b.owned (number - a.missing.base) end a.owners
     other_end b.owners wide
-    (λ k. a.based.none k ∙ sym (b.based.none k)) a.replayed replay in
+    (same_owners volume objects a.missing.base a.base_end b.base_end a.owned b.owned a.opening.checkpoint moved) a.replayed
+    replay in
     (same_number, one.0, has_one_value objects uuid_at a.owners b.owners image other one.1 long a.value b.value)
 
 -- the objects of a stream up to a number that it has
@@ -91,7 +114,7 @@ stand_for_history volume uuid_at objects stream opening number own wide ends val
       missing = landed.missing;
       base_end = stream.end;
       owned = stream.opening;
-      based = subst (λ n. IsCheckpointOf volume objects n stream.end stream.opening) (sym base) landed.based;
+      opening = subst (λ n. IsOpening volume uuid_at objects n stream.end stream.opening) (sym base) landed.opens.is;
       owners = owners stream number;
       replayed =
           subst (λ n. Replays objects volume n stream.end stream.opening (number - n) (end_at stream number)
@@ -103,6 +126,6 @@ stand_for_history volume uuid_at objects stream opening number own wide ends val
       value =
           value_is_image_after objects uuid_at volume stream.number stream.end stream.entries stream.opening opening list
           own wide ends
-          (follow_first stream.end (number - stream.number) stream.objects valid.ends) landed.stored landed.value;
+          (follow_first stream.end (number - stream.number) stream.objects valid.ends) landed.stored landed.opens.value;
       past = landed.past;
     }

@@ -6,7 +6,8 @@ use Rattle.object_format.specs.declared.expected.Expected.{Expected}
 use Rattle.object_format.specs.declared.rows.Rows.{Rows}
 use Rattle.object_format.specs.Header.{has_seqs_of_kind, begins_at}
 use Rattle.object_stream.specs.Replay.{HasParts, expected_at}
-use Rattle.stopped_volume.specs.Objects.{expected_alone, IsWhole}
+use Rattle.stopped_volume.specs.Expected.{expected_alone}
+use Rattle.stopped_volume.specs.Objects.{IsWhole}
 
 -- two tests hold, and so does the first
 first_alone : (first second : Bool) → IsTrue (first && second) → IsTrue (first && true)

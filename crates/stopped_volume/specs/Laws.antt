@@ -8,8 +8,8 @@ use Rattle.object_format.specs.declared.expected.Expected.{Expected}
 use Rattle.object_stream.specs.Stream.{Stream, objects_to, end_at, last_number, IsStream}
 use Rattle.object_stream.specs.Landed.{Numbers, IsFirstMissing}
 use Rattle.object_stream.specs.Stored.{AreStored}
-use Rattle.object_stream.specs.Value.{IsValue}
-use Rattle.stopped_volume.specs.Objects.{landed_in, IsCheckpointOf, AreCheckpoints, AreWholePast, ObjectsStandFor}
+use Rattle.stopped_volume.specs.Opening.{HasOpening}
+use Rattle.stopped_volume.specs.Objects.{landed_in, AreCheckpoints, AreWholePast, ObjectsStandFor}
 
 -- objects stand for one image of a length, with one number and one end
 abbrev pub StandForOneVolume : Type 0
@@ -30,8 +30,7 @@ pub record HasStreamUpTo (volume : Expected) (uuid_at : ℕ → Option (List ℕ
   pub checkpoints : AreCheckpoints volume objects checkpoint
   pub missing : IsFirstMissing checkpoint (landed_in objects volume) (number + 1)
   pub base : missing.base ≡ stream.number
-  pub based : IsCheckpointOf volume objects stream.number stream.end stream.opening
-  pub value : IsValue objects uuid_at stream.opening opening
+  pub opens : HasOpening volume uuid_at objects stream opening
   pub last : number ≤ last_number stream
   pub stored : AreStored objects uuid_at volume stream.number stream.end stream.entries (objects_to stream number)
   pub past : AreWholePast volume objects number

@@ -1,3 +1,5 @@
+pub mod Expected
+pub mod Opening
 pub mod Objects
 pub mod Super
 pub mod Device

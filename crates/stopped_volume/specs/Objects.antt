@@ -6,31 +6,17 @@ use Rattle.lsvd_objstore.specs.Objects.{Objects, found}
 use Rattle.object_format.specs.declared.header.Header.{Header}
 use Rattle.object_format.specs.declared.expected.Expected.{Expected}
 use Rattle.object_format.specs.declared.rows.Rows.{Rows}
-use Rattle.object_format.specs.declared.rows.Rows.TheVariants.{Checkpoint}
 use Rattle.object_format.specs.Object.{IsObject}
 use Rattle.object_stream.specs.Stream.{Owners}
 use Rattle.object_stream.specs.Landed.{Numbers, IsFirstMissing}
-use Rattle.object_stream.specs.Replay.{object_name, HasParts, Replays}
+use Rattle.object_stream.specs.Replay.{object_name, Replays}
 use Rattle.object_stream.specs.Value.{IsValue}
+use Rattle.stopped_volume.specs.Expected.{expected_alone}
+use Rattle.stopped_volume.specs.Opening.{IsCheckpointOf, IsOpening}
 
 -- the numbers of a volume's objects that a store has
 abbrev pub landed_in : Objects → Expected → Numbers
 landed_in objects volume number = is_some (found objects (object_name volume number))
-
--- What is expected of a volume's object of this number, where the end before it is not known; the rest is the volume's.
-abbrev pub expected_alone : Expected → (number : ℕ) → Expected
-expected_alone volume number = record volume { number = number; end_before = None }
-
--- The store has a whole checkpoint under this number, whose end this is, and after which these are the owners of the sectors. A
--- checkpoint has no rows yet, so that none is owned.
-pub record IsCheckpointOf (volume : Expected) (objects : Objects) (number end : ℕ) (owned : Owners) : Type 0 where
-  pub bytes : List ℕ
-  pub present : found objects (object_name volume number) ≡ Option.Some bytes
-  pub header : Header
-  pub payload : List ℕ
-  pub parts : HasParts (expected_alone volume number) bytes header Checkpoint payload
-  pub ends : header.end_seq ≡ end
-  pub none : (k : ℕ) → owned k ≡ None
 
 -- these are the numbers of all checkpoints that a store has
 abbrev pub AreCheckpoints : Expected → Objects → Numbers → Type 0
@@ -48,9 +34,9 @@ AreWholePast volume objects number =
     → IsWhole (expected_alone volume other) bytes
 
 -- The objects of a store stand for an image, the number of the object before the first missing one, and that object's end: from
--- the newest checkpoint on each object up to it is whole and goes on where the one before it ends, the objects past it are whole
--- too, and the image is the value that the replay of the objects up to it has. A level's uuid is that of the volume, and then
--- those of its ancestors.
+-- the newest checkpoint on, whose places hold their sectors, each object up to it is whole and goes on where the one before it
+-- ends, the objects past it are whole too, and the image is the value that the replay of the objects up to it has. A level's uuid
+-- is that of the volume, and then those of its ancestors.
 pub record ObjectsStandFor (volume : Expected) (uuid_at : ℕ → Option (List ℕ)) (objects : Objects) (image : Image)
     (number end : ℕ) : Type 0 where
   pub checkpoint : Numbers
@@ -58,7 +44,7 @@ pub record ObjectsStandFor (volume : Expected) (uuid_at : ℕ → Option (List �
   pub missing : IsFirstMissing checkpoint (landed_in objects volume) (number + 1)
   pub base_end : ℕ
   pub owned : Owners
-  pub based : IsCheckpointOf volume objects missing.base base_end owned
+  pub opening : IsOpening volume uuid_at objects missing.base base_end owned
   pub owners : Owners
   pub replayed : Replays objects volume missing.base base_end owned (number - missing.base) end owners
   pub value : IsValue objects uuid_at owners image

@@ -55,9 +55,9 @@ module _ (uuid : List ℕ) (geometry : Geometry) (objects : Objects) (list : Obj
           subst (λ (name : ObjName). IsTrue (is_some (found objects name)))
           (named_so uuid it.0 greatest listed.1 it.2 it.3) listed.2)
     ];
-    end_is = λ low uuid_at stream number has.
+    end_is = λ low uuid_at stream opening number has.
         (let least = is.no_less in
-        ((from.recovered (omega (arith, low, least))).streams uuid_at stream number has).end_is);
+        ((from.recovered (omega (arith, low, least))).streams uuid_at stream opening number has).end_is);
   }
 
 pub extent_of : (uuid : List ℕ) (geometry : Geometry) (told : Option Objects) (recovered : RecoveredState) (greatest : ℕ)

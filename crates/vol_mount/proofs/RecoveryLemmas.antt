@@ -37,6 +37,7 @@ pub no_device_fault : (error : RecoverError) → is_device_fault (of_recovery er
 no_device_fault recovery.NoCheckpoint = refl
 no_device_fault (recovery.BadObject number reason) = refl
 no_device_fault (recovery.NotData number) = refl
+no_device_fault (recovery.MissingObject number) = refl
 no_device_fault recovery.StoreFault = refl
 no_device_fault recovery.OutOfMemory = refl
 
@@ -44,6 +45,7 @@ pub same_fault : (error : RecoverError) → is_store_fault_of (of_recovery error
 same_fault recovery.NoCheckpoint = refl
 same_fault (recovery.BadObject number reason) = refl
 same_fault (recovery.NotData number) = refl
+same_fault (recovery.MissingObject number) = refl
 same_fault recovery.StoreFault = refl
 same_fault recovery.OutOfMemory = refl
 
@@ -59,6 +61,7 @@ pub why_of : (error : RecoverError) (uuid : List ℕ) (geometry : Geometry) (obj
 why_of recovery.NoCheckpoint uuid geometry objects refused = none_is uuid geometry objects refused
 why_of (recovery.BadObject number reason) uuid geometry objects refused = refused
 why_of (recovery.NotData number) uuid geometry objects refused = refused
+why_of (recovery.MissingObject number) uuid geometry objects refused = refused
 why_of recovery.StoreFault uuid geometry objects refused = tt
 why_of recovery.OutOfMemory uuid geometry objects refused = tt
 
@@ -66,9 +69,10 @@ why_of recovery.OutOfMemory uuid geometry objects refused = tt
 data_of : (uuid : List ℕ) (geometry : Geometry) (plain : PlainState) (number : ℕ) (objects : Objects)
     → geometry ≡ sizes_with geometry.log plain.geometry
     → (has : HasObjects uuid plain number objects) → HasDataUpTo (expected_of uuid geometry) has.uuid_at objects
-    (stream_in plain) number
+    (stream_in plain) plain.opening number
 data_of uuid geometry plain number objects sizes has =
-    subst (λ g. HasDataUpTo (expected_of uuid g) has.uuid_at objects (stream_in plain) number) (sym sizes) has.stored
+    subst (λ g. HasDataUpTo (expected_of uuid g) has.uuid_at objects (stream_in plain) plain.opening number) (sym sizes)
+    has.stored
 
 refuses_none : (error : RecoverError) (uuid : List ℕ) (geometry : Geometry) (objects : Option Objects) → IsRefusal error
     → IfSome objects (λ o. IsRecoveryRefused (expected_of uuid geometry) o error) → (plain : PlainState) (number : ℕ)
@@ -76,8 +80,8 @@ refuses_none : (error : RecoverError) (uuid : List ℕ) (geometry : Geometry) (o
 refuses_none error uuid geometry None refusal refused plain number stored = absurd stored.objects_are
 refuses_none error uuid geometry (Some objects) refusal refused plain number stored =
     let has : HasObjects uuid plain number objects = stored.objects_are in
-    refused.no_stream has.uuid_at (stream_in plain) number (data_of uuid geometry plain number objects stored.sizes has)
-    refusal
+    refused.no_stream has.uuid_at (stream_in plain) plain.opening number
+    (data_of uuid geometry plain number objects stored.sizes has) refusal
 
 pub no_refusal_of : (error : RecoverError) (uuid : List ℕ) (geometry : Geometry) (objects : Option Objects)
     → IfSome objects (λ o. IsRecoveryRefused (expected_of uuid geometry) o error)
@@ -88,6 +92,8 @@ no_refusal_of (recovery.BadObject n reason) uuid geometry objects refused = λ p
     absurd (refuses_none (recovery.BadObject n reason) uuid geometry objects tt refused plain number stored)
 no_refusal_of (recovery.NotData n) uuid geometry objects refused = λ plain number stored.
     absurd (refuses_none (recovery.NotData n) uuid geometry objects tt refused plain number stored)
+no_refusal_of (recovery.MissingObject n) uuid geometry objects refused = λ plain number stored.
+    absurd (refuses_none (recovery.MissingObject n) uuid geometry objects tt refused plain number stored)
 no_refusal_of recovery.StoreFault uuid geometry objects refused = λ plain number stored. refl
 no_refusal_of recovery.OutOfMemory uuid geometry objects refused = λ plain number stored. refl
 
@@ -123,7 +129,7 @@ checkpoint_is : (uuid : List ℕ) (geometry : Geometry) (plain : PlainState) (nu
     → HasObjects uuid plain number objects → plain.checkpoint.number ≡ checkpoint
 checkpoint_is uuid geometry plain number objects checkpoint end limits newest sizes has =
     let is = base_is (expected_of uuid geometry) objects checkpoint end (wide_is geometry limits) newest has.uuid_at
-    (stream_in plain) number
+    (stream_in plain) plain.opening number
     (data_of uuid geometry plain number objects sizes has) in
     has.opened ∙ sym is
 
@@ -201,10 +207,10 @@ list_of_told uuid geometry plain number objects log checkpoint limits is from st
     let has : HasObjects uuid plain number objects = stored.objects_are in
     let sizes = stored.sizes in
     let of_data = data_of uuid geometry plain number objects sizes has in
-    let short = from.no_longer has.uuid_at (stream_in plain) number of_data in
+    let short = from.no_longer has.uuid_at (stream_in plain) plain.opening number of_data in
     let low = stored.low in
-    let recovered : HasRecovered geometry.sectors (stream_in plain) number log =
-    (from.recovered (omega (arith, short, low))).streams has.uuid_at (stream_in plain) number of_data in
+    let recovered : HasRecovered plain.opening (stream_in plain) number log =
+    (from.recovered (omega (arith, short, low))).streams has.uuid_at (stream_in plain) plain.opening number of_data in
     let first = checkpoint_is uuid geometry plain number objects checkpoint from.checkpoint_end limits from.newest sizes has in
     let fits = subst (λ g. IsTrue (is_within_limits g)) sizes limits in
     let rest = mounted_is_at_rest uuid geometry.log plain number objects stored.valid has fits in
@@ -217,8 +223,7 @@ list_of_told uuid geometry plain number objects log checkpoint limits is from st
           (subst (λ g. R g plain.checkpoint.number (end_of_object number plain)) (sym sizes) rest));
       shows = λ data_at.
           recovered_shows_objects uuid data_at geometry.log plain number objects log stored.valid has
-          (subst (λ g. IsListUpTo uuid g log.uploads.window.last log.uploads.queue.end log) sizes is.list)
-          (subst (λ (g : Geometry). HasRecovered g.sectors (stream_in plain) number log) sizes recovered);
+          (subst (λ g. IsListUpTo uuid g log.uploads.window.last log.uploads.queue.end log) sizes is.list) recovered;
       end_is = recovered.end_is;
       number_is = recovered.number_is;
     }
@@ -239,6 +244,7 @@ pub removal_faults : (error : RecoverError) → IsNoAnswer error → IsFault (of
 removal_faults recovery.NoCheckpoint is = absurd is
 removal_faults (recovery.BadObject number reason) is = absurd is
 removal_faults (recovery.NotData number) is = absurd is
+removal_faults (recovery.MissingObject number) is = absurd is
 removal_faults recovery.StoreFault is = tt
 removal_faults recovery.OutOfMemory is = tt
 

@@ -2,6 +2,7 @@
 use Rattle.std.specs.Prelude.{◌≡◌, ℕ, ◌^◌, ◌<◌, ◌≤◌, ◌⊎◌, max, Bool, true, false, Option, None, IfSome, IsTrue, Result, Ok, Err}
 use Rattle.std.specs.Prelude.{List, [], ◌∷◌}
 use Rattle.lsvd_base.specs.declared.geometry.Geometry.{Geometry}
+use Rattle.lsvd_base.specs.Image.{Image}
 use Rattle.lsvd_device.specs.Device.{DiskState, HoldsNow}
 use Rattle.lsvd_names.specs.Spelling.{IsName}
 use Rattle.lsvd_names.specs.declared.name.ObjName.{ObjName}
@@ -21,8 +22,8 @@ use Rattle.cache_log.specs.declared.error.LogReadError.TheVariants as read_error
 use Rattle.object_stream.specs.Stream.{Stream, end_at}
 use Rattle.stopped_volume.specs.Objects.{landed_in}
 use Rattle.stopped_volume.specs.Device.{CacheOwner, owner_of}
-use Rattle.refusals.specs.declared.refusal.Refusal.TheVariants.{NoVolume, BadSuper, NoCheckpoint, BadObject, NotData, NoSlot}
-use Rattle.refusals.specs.declared.refusal.Refusal.TheVariants.{WrongVolume, StaleCache, BadRecord, Worn}
+use Rattle.refusals.specs.declared.refusal.Refusal.TheVariants.{NoVolume, BadSuper, NoCheckpoint, BadObject, NotData}
+use Rattle.refusals.specs.declared.refusal.Refusal.TheVariants.{MissingObject, NoSlot, WrongVolume, StaleCache, BadRecord, Worn}
 use Rattle.super_recovery.specs.declared.error.SuperError.{SuperError}
 use Rattle.super_recovery.specs.declared.error.SuperError.TheVariants as supers
 use Rattle.object_recovery.specs.declared.error.RecoverError.{RecoverError}
@@ -38,6 +39,7 @@ abbrev pub of_recovery : RecoverError → MountError
 of_recovery recovery.NoCheckpoint = Refused NoCheckpoint
 of_recovery (recovery.BadObject number reason) = Refused (BadObject number reason)
 of_recovery (recovery.NotData number) = Refused (NotData number)
+of_recovery (recovery.MissingObject number) = Refused (MissingObject number)
 of_recovery recovery.StoreFault = StoreFault
 of_recovery recovery.OutOfMemory = OutOfMemory
 
@@ -105,8 +107,8 @@ IsFirstGreat (number ∷ numbers) value = ((2 ^ 60 ≤ number) × (value ≡ num
 pub record IsExtent (uuid : List ℕ) (geometry : Geometry) (objects : Objects) (greatest end : ℕ) : Type 0 where
   pub none_greater : (name : ObjName) → IsName name → IsPastOf uuid greatest name → found objects name ≡ None
   pub present : IsTrue (landed_in objects (expected_of uuid geometry) greatest)
-  pub end_is : greatest < 2 ^ 60 → (uuid_at : ℕ → Option (List ℕ)) (stream : Stream) (number : ℕ)
-      → HasDataUpTo (expected_of uuid geometry) uuid_at objects stream number → end ≡ end_at stream number
+  pub end_is : greatest < 2 ^ 60 → (uuid_at : ℕ → Option (List ℕ)) (stream : Stream) (opening : Image) (number : ℕ)
+      → HasDataUpTo (expected_of uuid geometry) uuid_at objects stream opening number → end ≡ end_at stream number
 
 abbrev pub HasExtent : (uuid : List ℕ) → Geometry → Option Objects → (greatest end : ℕ) → Type 0
 HasExtent uuid geometry objects greatest end = IfSome objects (λ objects. IsExtent uuid geometry objects greatest end)
@@ -128,6 +130,8 @@ IsWhyNotStored uuid geometry objects (Refused (BadObject number reason)) =
     IfSome objects (λ objects. IsRecoveryRefused (expected_of uuid geometry) objects (recovery.BadObject number reason))
 IsWhyNotStored uuid geometry objects (Refused (NotData number)) =
     IfSome objects (λ objects. IsRecoveryRefused (expected_of uuid geometry) objects (recovery.NotData number))
+IsWhyNotStored uuid geometry objects (Refused (MissingObject number)) =
+    IfSome objects (λ objects. IsRecoveryRefused (expected_of uuid geometry) objects (recovery.MissingObject number))
 IsWhyNotStored uuid geometry objects StoreFault = Unit {0}
 IsWhyNotStored uuid geometry objects DeviceFault = Unit {0}
 IsWhyNotStored uuid geometry objects OutOfMemory = Unit {0}

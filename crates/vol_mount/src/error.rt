@@ -38,6 +38,9 @@ impl From<RecoverError> for MountError {
                 MountError::Refused(Refusal::BadObject { number, reason })
             }
             RecoverError::NotData { number } => MountError::Refused(Refusal::NotData { number }),
+            RecoverError::MissingObject { number } => {
+                MountError::Refused(Refusal::MissingObject { number })
+            }
             RecoverError::StoreFault => MountError::StoreFault,
             RecoverError::OutOfMemory => MountError::OutOfMemory,
         }

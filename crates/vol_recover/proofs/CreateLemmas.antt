@@ -15,7 +15,8 @@ use Rattle.object_format.specs.Header.{HasWidths}
 use Rattle.object_format.specs.Laws.{WritesObjects}
 use Rattle.object_format.specs.Object.{IsObject}
 use Rattle.object_format.specs.Writing.{object_header_of, MayBeWritten, front_bytes}
-use Rattle.stopped_volume.specs.Objects.{expected_alone}
+use Rattle.ckpt_format.proofs.LawLemmas.{is_object_without_rows}
+use Rattle.stopped_volume.specs.Expected.{expected_alone}
 use Rattle.object_recovery.specs.Checkpoints.{expected_of}
 use Rattle.super_recovery.specs.declared.error.SuperError.{SuperError}
 use Rattle.super_recovery.specs.declared.error.SuperError.TheVariants as super_errors
@@ -56,15 +57,8 @@ first_object_is uuid geometry bytes law size is =
     } in
     let written = law (first_expected uuid geometry) 0 0 Checkpoint [] widths (may_be_written uuid geometry) refl in
     let P : List ℕ → Type 0 = λ b. IsObject b (length b) (first_expected uuid geometry) header Checkpoint in
-    record {
-      header = header;
-      payload = _;
-      parts = record {
-        is_object = subst P (sym is) (subst P (append-nil (front_bytes header Checkpoint)) written);
-        payload_is = refl;
-      };
-      ends = refl;
-    }
+    (is_object_without_rows bytes (first_expected uuid geometry) 0).1
+    (subst P (sym is) (subst P (append-nil (front_bytes header Checkpoint)) written))
 
 -- ---- its put
 
@@ -76,11 +70,9 @@ put_first_is uuid geometry bytes first old new put = (
   record {
     bytes = bytes;
     present = put.put;
-    header = first.header;
-    payload = first.payload;
-    parts = first.parts;
-    ends = first.ends;
-    none = λ k. refl;
+    rows = [];
+    is_checkpoint = first;
+    says = λ k. refl;
   },
 )
 

@@ -8,7 +8,7 @@ use Rattle.lsvd_device.specs.Medium.{Medium}
 use Rattle.lsvd_device.specs.Device.{DiskState, IsDisk, HoldsNow}
 use Rattle.lsvd_device.specs.Memory.{IsSynced}
 use Rattle.lsvd_names.specs.declared.name.ObjName.{ObjName}
-use Rattle.lsvd_objstore.specs.Objects.{Objects, found}
+use Rattle.lsvd_objstore.specs.Objects.{Objects}
 use Rattle.lsvd_objstore.specs.Store.{StoreState, Becomes}
 use Rattle.commit_slot.specs.Slots.{log_of}
 use Rattle.cache_log.specs.Reads.{reads_cost}

@@ -8,7 +8,7 @@ use Rattle.lsvd_names.specs.Names.{super_name, epoch_name, numbered_name}
 use Rattle.lsvd_objstore.specs.Objects.{Objects, found}
 use Rattle.lsvd_objstore.specs.Store.{Becomes}
 use Rattle.object_uploads.specs.State.{UploadsState}
-use Rattle.stopped_volume.specs.Objects.{IsCheckpointOf}
+use Rattle.stopped_volume.specs.Opening.{IsCheckpointOf}
 use Rattle.stopped_volume.specs.Store.{PutState, MayHoldPuts}
 use Rattle.stopped_volume.specs.Store.PutState.{Begun}
 use Rattle.stopped_volume.specs.Super.{HasVolume}
@@ -19,11 +19,13 @@ use Rattle.object_recovery.specs.Checkpoints.{expected_of}
 use Rattle.refine_store.specs.Puts.{ArePuts, MayBeLeft}
 use Rattle.refine_store.specs.Stored.{StoreStands}
 use Rattle.refine_store.specs.Laws.{LeftHasObjects}
+use Rattle.refine_store.proofs.LowerLemmas.{lower_of_first}
 use Rattle.super_recovery.specs.Found.{HasEpoch}
 use Rattle.super_recovery.specs.Laws.{VolumeIsCreated}
 use Rattle.super_recovery.specs.Put.{PutsSuper, PutsEpoch}
 use Rattle.vol_recover.specs.Creating.{PutsFirst, PutsNoSuper, PutsSome, PutsVolume, IsNewTo, HasNewVolume, HasNoneOrNew}
 use Rattle.vol_recover.specs.Creating.{super_of}
+use Rattle.vol_recover.proofs.BlankLemmas.{uuid_alone, opens_blank}
 
 -- ---- names
 
@@ -131,11 +133,9 @@ module _ (uuid : List ℕ) (geometry : Geometry) (old : Objects) (new_to : IsNew
         record {
           bytes = is.bytes;
           present = same_as_first (numbered_name uuid 1) (epoch_is_no_object uuid 1 0) (super_is_no_object uuid 1) ∙ is.present;
-          header = is.header;
-          payload = is.payload;
-          parts = is.parts;
-          ends = is.ends;
-          none = λ k. refl;
+          rows = is.rows;
+          is_checkpoint = is.is_checkpoint;
+          says = is.says;
         }
 
     holds_no_puts : MayHoldPuts (expected_of uuid geometry) no_puts 1 new
@@ -149,10 +149,11 @@ module _ (uuid : List ℕ) (geometry : Geometry) (old : Objects) (new_to : IsNew
       described = has_volume;
       opened = refl;
       alone = created_has_first geometry;
-      opened_first = refl;
-      blank_is = refl;
-      first = has_first;
-      none_lower = λ number lower. lacks_object number (λ same. omega arith);
+      uuid_at = uuid_alone uuid;
+      own = refl;
+      opens = opens_blank (expected_of uuid geometry) (uuid_alone uuid) new (stream_in (created_volume geometry)) geometry.sectors
+          has_first (λ k. refl);
+      lower = lower_of_first (expected_of uuid geometry) new (lacks_object 0 (λ same. omega arith));
       held = holds_no_puts;
     }
 

@@ -1,5 +1,5 @@
 -- A volume that was created or mounted stands with its store.
-use Rattle.std.proofs.Common.{◌≡◌, ℕ, ◌+◌, ◌^◌, ◌<◌, Option, Some, None, List, inl, inr, refl, sym, ◌∙◌, subst}
+use Rattle.std.proofs.Common.{◌≡◌, ℕ, ◌+◌, ◌^◌, ◌<◌, ◌≤◌, Option, Some, None, List, inl, inr, refl, sym, ◌∙◌, subst, arith}
 use Rattle.lsvd_base.specs.declared.geometry.Geometry.{Geometry}
 use Rattle.lsvd_names.specs.Spelling.{IsUuid}
 use Rattle.lsvd_objstore.specs.Objects.{Objects, found}
@@ -18,6 +18,7 @@ use Rattle.refine_log.specs.Fuses.{fuse_in}
 use Rattle.refine_mount.specs.Mounted.{mounted_with, mounted_without}
 use Rattle.refine_store.specs.Puts.{MayBeLeft}
 use Rattle.refine_store.specs.Stored.{StoreStands, HasVolumeUpTo, HasNonePast}
+use Rattle.refine_store.proofs.LowerLemmas.{lower_stays, opening_stays}
 use Rattle.refine_store.proofs.StandLemmas.{mounted_stands, stands_with_any_cache}
 use Rattle.vol_core.specs.Shows.{Shows}
 use Rattle.vol_core.specs.Step.{passing}
@@ -49,13 +50,16 @@ module _ (uuid : List ℕ) (number : ℕ) (old new : Objects) (removes : Removes
       uuid_at = has.objects_are.uuid_at;
       opened = has.objects_are.opened;
       alone = has.objects_are.alone;
-      blank_is = has.objects_are.blank_is;
       stored =
-          removal_keeps_stream (expected_of uuid plain.geometry) has.objects_are.uuid_at old new (stream_in plain) number removes
-          has.objects_are.stored;
+          removal_keeps_stream (expected_of uuid plain.geometry) has.objects_are.uuid_at old new (stream_in plain) plain.opening
+          number refl removes has.objects_are.stored;
     };
-    opened_first = has.opened_first;
-    none_lower = λ other low. stays_none other (has.none_lower other low);
+    lower =
+        let missing = has.objects_are.stored.stored.missing in
+        let base = has.objects_are.stored.stored.base in
+        let from : plain.number ≤ number = omega (arith, missing.above, base) in
+        lower_stays (expected_of uuid plain.geometry) plain.number old new
+        (λ other low. removes.others (numbered_name uuid other) (λ past. absurd (omega (arith, past.1.1, low, from)))) has.lower;
   }
 
 -- where all are, none is left: each was whole, so that a name may have its number
@@ -83,18 +87,12 @@ module _ (uuid : List ℕ) (epoch : ℕ) (old new : Objects) (begun : PutsEpoch 
     described = next_epoch_is_begun uuid plain.geometry epoch old new left.described begun;
     opened = left.opened;
     alone = left.alone;
-    opened_first = left.opened_first;
-    blank_is = left.blank_is;
-    first = record {
-      bytes = left.first.bytes;
-      present = same_object plain.number ∙ left.first.present;
-      header = left.first.header;
-      payload = left.first.payload;
-      parts = left.first.parts;
-      ends = left.first.ends;
-      none = left.first.none;
-    };
-    none_lower = λ other low. same_object other ∙ left.none_lower other low;
+    uuid_at = left.uuid_at;
+    own = left.own;
+    opens =
+        opening_stays (expected_of uuid plain.geometry) left.uuid_at old new plain.number refl left.own
+        (λ other low. same_object other) (stream_in plain) plain.opening refl left.opens;
+    lower = lower_stays (expected_of uuid plain.geometry) plain.number old new (λ other low. same_object other) left.lower;
     held = record {
       puts_are = λ other state bytes past is.
           subst (MayHoldPut state bytes) (sym (same_object other)) (left.held.puts_are other state bytes past is);

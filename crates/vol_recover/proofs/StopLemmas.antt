@@ -237,8 +237,7 @@ stopped_with_cache owner plain found number old new disk left medium may removed
             volume = record {
               described = volume.described;
               objects_are = is.1;
-              opened_first = volume.opened_first;
-              none_lower = volume.none_lower;
+              lower = volume.lower;
             };
           })
     ]

@@ -10,12 +10,12 @@ use Rattle.lsvd_objstore.specs.Objects.{Objects, found, IsPut}
 use Rattle.lsvd_objstore.specs.Store.{StoreState, Becomes}
 use Rattle.lsvd_objstore.specs.declared.error.StoreError.{StoreError}
 use Rattle.lsvd_objstore.specs.declared.error.StoreError.TheVariants as store_errors
-use Rattle.object_format.specs.declared.header.Header.{Header}
-use Rattle.object_format.specs.declared.rows.Rows.TheVariants.{Checkpoint}
-use Rattle.object_stream.specs.Replay.{object_name, HasParts}
+use Rattle.ckpt_format.specs.Checkpoint.{IsCheckpoint}
+use Rattle.object_stream.specs.Replay.{object_name}
 use Rattle.object_uploads.specs.State.{UploadsState}
 use Rattle.super_format.specs.declared.super_object.Super.{Super}
-use Rattle.stopped_volume.specs.Objects.{expected_alone, IsCheckpointOf}
+use Rattle.stopped_volume.specs.Expected.{expected_alone}
+use Rattle.stopped_volume.specs.Opening.{IsCheckpointOf}
 use Rattle.stopped_volume.specs.Super.{HasVolume}
 use Rattle.plain_disk.specs.State.{created_volume}
 use Rattle.object_recovery.specs.Checkpoints.{expected_of}
@@ -44,11 +44,8 @@ of_super error = StoreFault
 -- ---- the puts
 
 -- bytes are those of the first object of a volume: a checkpoint without rows, and without entries before it
-pub record IsFirstObject (uuid : List ℕ) (geometry : Geometry) (bytes : List ℕ) : Type 0 where
-  pub header : Header
-  pub payload : List ℕ
-  pub parts : HasParts (expected_alone (expected_of uuid geometry) 1) bytes header Checkpoint payload
-  pub ends : header.end_seq ≡ 0
+abbrev pub IsFirstObject : (uuid : List ℕ) → Geometry → (bytes : List ℕ) → Type 0
+IsFirstObject uuid geometry bytes = IsCheckpoint bytes (expected_alone (expected_of uuid geometry) 1) 0 []
 
 -- the first object of a volume was put into a store
 abbrev pub PutsFirst : (uuid : List ℕ) → Geometry → (old new : Objects) → Type 0

@@ -187,6 +187,7 @@ impl VolumeMaps {
         ensures log { self.new.log ≡ self.old.log }
         ensures objects { HasSameObjects self.old.objects self.new.objects }
         ensures counted { IsCounted self.new.settled.rows self.new.objects }
+        ensures shortest { IsShortest object_on self.new.settled.rows }
         ensures object_spare { self.new.objects.spare ≡ self.old.objects.spare }
         ensures spare { self.old.settled.spare ≤ self.new.settled.spare + 1 }
     {

@@ -6,8 +6,6 @@ use Rattle.std.specs.List.{list_any}
 use Rattle.std.proofs.lemmas.Bool.{cases_eq, eq-eqb, ne_eqb}
 use Rattle.std.proofs.lemmas.List.{take-append-le}
 use Rattle.lsvd_base.specs.declared.entry.Entry.{Entry}
-use Rattle.lsvd_base.specs.Image.{blank}
-use Rattle.lsvd_base.specs.declared.geometry.Geometry.{Geometry}
 use Rattle.lsvd_names.specs.Names.{numbered_name}
 use Rattle.lsvd_objstore.specs.Objects.{Objects, found}
 use Rattle.object_format.specs.declared.expected.Expected.{Expected}
@@ -17,11 +15,11 @@ use Rattle.object_uploads.specs.Changes.{index_of}
 use Rattle.plain_disk.specs.State.{PlainState, stream_in}
 use Rattle.plain_disk.specs.Valid.{IsPlainVolume}
 use Rattle.plain_disk.proofs.EndLemmas.{frontier_is_sealed}
-use Rattle.stopped_volume.specs.Objects.{IsCheckpointOf}
+use Rattle.stopped_volume.specs.Opening.{HasOpening}
 use Rattle.stopped_volume.specs.Store.{PutState, MayHoldPut}
 use Rattle.stopped_volume.specs.Store.PutState.{Acknowledged, Begun, NotBegun}
 use Rattle.stopped_volume.specs.Super.{HasVolume}
-use Rattle.refine_store.specs.Puts.{IsObjectOf, state_of_put, AreBytesOfPut}
+use Rattle.refine_store.specs.Puts.{IsObjectOf, state_of_put, AreBytesOfPut, HasLower}
 use Rattle.refine_store.specs.Stored.{StoreStands}
 use Rattle.refine_store.proofs.KeepLemmas.{object_kept, count_within, size_within}
 use Rattle.upload_window.specs.Window.{WindowState, has_number, entered, marked, acknowledged}
@@ -106,12 +104,11 @@ module _ (uuid : List ℕ) (epoch : ℕ) (added : List Entry) (plain after : Pla
         described = subst (λ g. HasVolume uuid g epoch objects) (sym geometry) had.described;
         opened = ap (λ (p : PlainState). p.checkpoint.number) goes.opens ∙ had.opened ∙ sym number_is;
         alone = shown.alone;
-        opened_first = number_is ∙ had.opened_first;
-        blank_is = ap (λ (p : PlainState). p.opening) goes.opens ∙ had.blank_is
-            ∙ ap (λ (g : Geometry). blank g.sectors) (sym geometry);
-        first = subst (λ (p : PlainState). IsCheckpointOf (expected_of uuid p.geometry) objects p.number p.end
-            (stream_in p).opening) (sym goes.opens) had.first;
-        none_lower = λ number low. had.none_lower number (omega (arith, low, number_is));
+        uuid_at = had.uuid_at;
+        own = had.own;
+        opens = subst (λ (p : PlainState). HasOpening (expected_of uuid p.geometry) had.uuid_at objects (stream_in p) p.opening)
+            (sym goes.opens) (record { is = had.opens.is; value = had.opens.value });
+        lower = subst (λ (p : PlainState). HasLower (expected_of uuid p.geometry) p.number objects) (sym goes.opens) had.lower;
       }
 
   -- an object that is open before and after keeps its bytes

@@ -1,9 +1,8 @@
 -- A store that stands for a plain volume, told by each of its objects, and what a put leaves of it.
 use Rattle.std.proofs.Common.{arith, ◌≡◌, ℕ, ◌<◌, zero, suc, ◌≤◌, inl, inr, List, [], ◌∷◌, sym, ◌∙◌}
-use Rattle.std.proofs.Common.{ap, subst}
+use Rattle.std.proofs.Common.{refl, ap, subst}
 use Rattle.std.specs.Prelude.{Option, Some, None}
 use Rattle.std.proofs.lemmas.Bool.{cases_eq, cases_lt}
-use Rattle.lsvd_base.specs.Image.{blank}
 use Rattle.lsvd_base.specs.declared.geometry.Geometry.{Geometry}
 use Rattle.lsvd_names.specs.declared.name.ObjName.{ObjName}
 use Rattle.lsvd_names.specs.declared.name.NameKind.{NameKind}
@@ -15,12 +14,13 @@ use Rattle.object_uploads.specs.Queue.{HasBytesAt}
 use Rattle.object_uploads.specs.Changes.{index_of}
 use Rattle.plain_disk.specs.State.{PlainState, stream_in}
 use Rattle.plain_disk.specs.First.{HasFirstCheckpointAlone}
-use Rattle.stopped_volume.specs.Objects.{IsCheckpointOf}
+use Rattle.stopped_volume.specs.Opening.{HasOpening}
 use Rattle.stopped_volume.specs.Store.{PutState, MayHoldPut}
 use Rattle.stopped_volume.specs.Store.PutState.{Acknowledged, Begun, NotBegun}
 use Rattle.stopped_volume.specs.Super.{HasVolume}
-use Rattle.refine_store.specs.Puts.{state_of_put, AreBytesOfPut, MayBeLeft}
+use Rattle.refine_store.specs.Puts.{state_of_put, AreBytesOfPut, HasLower, MayBeLeft}
 use Rattle.refine_store.specs.Stored.{StoreStands}
+use Rattle.refine_store.proofs.LowerLemmas.{lower_stays, opening_stays}
 
 -- ---- the volume as a whole
 
@@ -29,10 +29,10 @@ pub record IsOpened (uuid : List ℕ) (epoch : ℕ) (plain : PlainState) (object
   pub described : HasVolume uuid plain.geometry epoch objects
   pub opened : plain.checkpoint.number ≡ plain.number
   pub alone : HasFirstCheckpointAlone plain
-  pub opened_first : plain.number ≡ 1
-  pub blank_is : plain.opening ≡ blank plain.geometry.sectors
-  pub first : IsCheckpointOf (expected_of uuid plain.geometry) objects plain.number plain.end (stream_in plain).opening
-  pub none_lower : (number : ℕ) → number < plain.number → found objects (numbered_name uuid number) ≡ None
+  pub uuid_at : ℕ → Option (List ℕ)
+  pub own : uuid_at 0 ≡ Some uuid
+  pub opens : HasOpening (expected_of uuid plain.geometry) uuid_at objects (stream_in plain) plain.opening
+  pub lower : HasLower (expected_of uuid plain.geometry) plain.number objects
 
 pub opened_in : (uuid : List ℕ) (epoch : ℕ) (plain : PlainState) (puts : ℕ → Option (PutState × List ℕ)) (objects : Objects)
     → MayBeLeft uuid epoch plain puts objects → IsOpened uuid epoch plain objects
@@ -40,10 +40,10 @@ opened_in uuid epoch plain puts objects left = record {
   described = left.described;
   opened = left.opened;
   alone = left.alone;
-  opened_first = left.opened_first;
-  blank_is = left.blank_is;
-  first = left.first;
-  none_lower = left.none_lower;
+  uuid_at = left.uuid_at;
+  own = left.own;
+  opens = left.opens;
+  lower = left.lower;
 }
 
 -- ---- one put
@@ -158,10 +158,10 @@ module _ (uuid : List ℕ) (epoch : ℕ) (plain : PlainState) (uploads : Uploads
         described = opened.described;
         opened = opened.opened;
         alone = opened.alone;
-        opened_first = opened.opened_first;
-        blank_is = opened.blank_is;
-        first = opened.first;
-        none_lower = opened.none_lower;
+        uuid_at = opened.uuid_at;
+        own = opened.own;
+        opens = opened.opens;
+        lower = opened.lower;
         held = record {
           puts_are = λ number state bytes past is. (held_put number state bytes past is).0;
           none_else = λ number past is. held_none number past is;
@@ -233,18 +233,15 @@ module _ (uuid : List ℕ) (n : ℕ) (bytes : List ℕ) (old new : Objects) (oth
     described = put_keeps_volume plain.geometry epoch is.described;
     opened = is.opened;
     alone = is.alone;
-    opened_first = is.opened_first;
-    blank_is = is.blank_is;
-    first = record {
-      bytes = is.first.bytes;
-      present = other_object plain.number (λ same. omega (arith, same, past)) ∙ is.first.present;
-      header = is.first.header;
-      payload = is.first.payload;
-      parts = is.first.parts;
-      ends = is.first.ends;
-      none = is.first.none;
-    };
-    none_lower = λ number low. other_object number (λ same. omega (arith, same, low, past)) ∙ is.none_lower number low;
+    uuid_at = is.uuid_at;
+    own = is.own;
+    opens =
+        opening_stays (expected_of uuid plain.geometry) is.uuid_at old new plain.number refl is.own
+        (λ number low. other_object number (λ same. omega (arith, same, low, past))) (stream_in plain) plain.opening refl
+        is.opens;
+    lower =
+        lower_stays (expected_of uuid plain.geometry) plain.number old new
+        (λ number low. other_object number (λ same. omega (arith, same, low, past))) is.lower;
   }
 
 -- what a store holds of a put that is under way, after its object was put

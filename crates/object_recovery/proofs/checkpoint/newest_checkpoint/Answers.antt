@@ -6,8 +6,8 @@ use Rattle.object_recovery.proofs.CheckpointLemmas.{found_newest, none_more, fou
 use Rattle.object_recovery.proofs.FindLemmas.{same_store}
 use Rattle.object_recovery.proofs.checkpoint.newest_checkpoint.Goals as goal
 
-pub checkpoint_end-requires : goal.checkpoint_end-requires
-checkpoint_end-requires g c =
+pub checkpoint_named-requires : goal.checkpoint_named-requires
+checkpoint_named-requires g c =
     c.requires c.index-names-left.result (c.loop-left.left - 1, omega arith, sym c.index-names-left.is)
 
 pub returns-in-Some-clause-newest : goal.returns-in-Some-clause-newest
@@ -18,13 +18,13 @@ returns-in-Some-clause-newest g c = λ tells.
     let name = c.index-names-left.result in
     let told = (g.S.Store.state c.loop-left.store).objects in
     let state = ap (λ (s : StoreState). s.objects) c.loop-left.invariant.same in
-    found_newest (g.S.Store.state c.args.store.now).objects geometry c.args.names.now index name c.in-Some.end (omega arith)
+    found_newest (g.S.Store.state c.args.store.now).objects geometry c.args.names.now index name c.in-Some.newest (omega arith)
     (sym c.index-names-left.is)
     (subst (λ o. IfSome o (λ objects. HasNoneFrom geometry objects c.args.names.now (index + 1))) state
     (subst (λ n. IfSome told (λ objects. HasNoneFrom geometry objects c.args.names.now n)) more
     (c.loop-left.invariant.none tells)))
-    (subst (λ o. IfSome o (λ objects. IsCheckpointNamed geometry objects name (Some c.in-Some.end))) state
-    ((rw c.in-Some.is at c.in_ok-end.ensures.end) tells))
+    (subst (λ o. IfSome o (λ objects. IsCheckpointNamed geometry objects name (Some c.in-Some.newest))) state
+    ((rw c.in-Some.is at c.in_ok-newest.ensures.named) tells))
 
 pub loop-left-preserved : goal.loop-left-preserved
 loop-left-preserved g c =
@@ -33,8 +33,8 @@ loop-left-preserved g c =
     let geometry = c.args.geometry.now in
     let name = c.index-names-left.result in
     let old = g.S.Store.state c.loop-left.store in
-    let after = same_store old (g.S.Store.state c.checkpoint_end.new.store) c.in_ok-end.ensures.unchanged
-    c.in_ok-end.ensures.faults in
+    let after = same_store old (g.S.Store.state c.checkpoint_named.new.store) c.in_ok-newest.ensures.unchanged
+    c.in_ok-newest.ensures.faults in
     record {
       inside = omega (arith, c.loop-left.invariant.inside);
       same = after ∙ c.loop-left.invariant.same;
@@ -44,7 +44,7 @@ loop-left-preserved g c =
           (none_more old.objects geometry c.args.names.now index name (omega arith) (sym c.index-names-left.is)
           (subst (λ n. IfSome old.objects (λ objects. HasNoneFrom geometry objects c.args.names.now n)) more
           (c.loop-left.invariant.none tells))
-          ((rw c.in_default.is at c.in_ok-end.ensures.end) tells));
+          ((rw c.in_default.is at c.in_ok-newest.ensures.named) tells));
     }
 
 pub returns-clause-none : goal.returns-clause-none

@@ -1,6 +1,6 @@
 use Rattle.std.proofs.Common.{subst, sym, rules}
 use Rattle.object_format.specs.Header.{IsObjectHeader}
-use Rattle.stopped_volume.specs.Objects.{expected_alone}
+use Rattle.stopped_volume.specs.Expected.{expected_alone}
 use Rattle.object_recovery.specs.Read.{IsReadOf}
 use Rattle.object_recovery.proofs.EndLemmas.{other_reason, headless, end_alone, bad_alone, head_read}
 use Rattle.object_recovery.proofs.reading.own_end.Goals as goal

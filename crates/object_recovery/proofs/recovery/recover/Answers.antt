@@ -1,4 +1,4 @@
-use Rattle.std.proofs.Common.{◌≡◌, List, subst, sym, ap, ◌∙◌}
+use Rattle.std.proofs.Common.{◌≡◌, ℕ, ◌≤◌, List, subst, sym, ap, ◌∙◌}
 use Rattle.std.specs.Prelude.{IfSome}
 use Rattle.lsvd_fault.specs.Faults.{Counts}
 use Rattle.lsvd_names.specs.Spelling.{IsUuid}
@@ -8,13 +8,13 @@ use Rattle.lsvd_objstore.specs.Store.{StoreState, OnlyCounts}
 use Rattle.stopped_volume.specs.Store.{TellsBytes}
 use Rattle.object_recovery.specs.declared.error.RecoverError.TheVariants as errors
 use Rattle.object_recovery.specs.Adoption.{IsRecoveryBegun}
-use Rattle.object_recovery.specs.Checkpoints.{expected_of, IsNewestWithEnd}
+use Rattle.object_recovery.specs.Checkpoints.{expected_of, ReadCheckpoint}
 use Rattle.object_recovery.specs.Faults.{of_store, is_store_fault}
 use Rattle.object_recovery.specs.Recovering.{Recovers, RecoverOf}
 use Rattle.object_recovery.specs.Recovery.{IsRecoveryRefused}
 use Rattle.object_recovery.proofs.FindLemmas.{same_store, error_of, passed_as}
-use Rattle.object_recovery.proofs.RefusalLemmas.{HasNoneAmong, IsNewestAmong, newest_refused, newest_told}
-use Rattle.object_recovery.proofs.OutcomeLemmas.{of_store_is_no_answer, store_counts, told_no_answer, told_begun}
+use Rattle.object_recovery.proofs.RefusalLemmas.{HasNoneAmong, IsNewestAmong, told_no_answer, newest_refused, newest_begins}
+use Rattle.object_recovery.proofs.OutcomeLemmas.{of_store_is_no_answer, store_counts, told_then}
 use Rattle.object_recovery.proofs.recovery.recover.Given as given
 use Rattle.object_recovery.proofs.recovery.recover.Goals.{In_ok-base, In_ok-log}
 use Rattle.object_recovery.proofs.recovery.recover.Goals as goal
@@ -73,24 +73,24 @@ returns-in_err-base g c =
 
 -- ---- the newest checkpoint was found
 
-newest : (g : given.Over) (c : In_ok-base g) → TellsBytes g.S.Receipt.Receipt.state
+begun : (g : given.Over) (c : In_ok-base g) → TellsBytes g.S.Receipt.Receipt.state → (names : List ObjName)
+    → c.as_slice.result.now ≡ names
     → IfSome (g.S.Store.state c.args.store.now).objects
-    (λ objects. IsNewestWithEnd (expected_of c.args.uuid c.args.geometry) objects c.in_ok-base.base.number c.in_ok-base.base.end)
-newest g c tells =
+    (IsRecoveryBegun c.args.uuid c.args.geometry c.in_ok-base.base names)
+begun g c tells names named =
     let told = (g.S.Store.state c.args.store.now).objects in
     let uuid = c.args.uuid in
     let geometry = c.args.geometry in
-    let names = c.as_slice.result.now in
+    let listing = c.in_ok-names.ensures in
+    let all = c.as_slice.result.now in
     let is_uuid : IsUuid uuid = c.a_uuid_has_sixteen_bytes.ensures in
-    let listed =
-    same_store (g.S.Store.state c.args.store.now) (g.S.Store.state c.list.new.self) c.in_ok-names.ensures.unchanged
-    c.in_ok-names.ensures.count in
-    let lists = subst (λ list. IfSome told (λ objects. Lists uuid objects list)) (sym c.as_slice.ensures)
-    c.in_ok-names.ensures.listed in
+    let listed = same_store (g.S.Store.state c.args.store.now) (g.S.Store.state c.list.new.self) listing.unchanged
+    listing.count in
+    let lists = subst (λ list. IfSome told (λ objects. Lists uuid objects list)) (sym c.as_slice.ensures) listing.listed in
     let base = c.in_ok-base.base in
-    newest_told told uuid geometry names base.number base.end is_uuid lists
-    (subst (λ (s : StoreState). IfSome s.objects (IsNewestAmong geometry names base.number base.end)) listed
-    (c.in_ok-base.ensures.newest tells))
+    newest_begins told uuid geometry all base is_uuid lists
+    (subst (λ (s : StoreState). IfSome s.objects (IsNewestAmong geometry all base)) listed (c.in_ok-base.ensures.newest tells))
+    names named
 
 -- the search for it changed nothing
 same_before : (g : given.Over) (c : In_ok-base g)
@@ -100,6 +100,14 @@ same_before g c =
     c.in_ok-base.ensures.faults
     ∙ same_store (g.S.Store.state c.args.store.now) (g.S.Store.state c.list.new.self) c.in_ok-names.ensures.unchanged
     c.in_ok-names.ensures.count
+
+pub recover_list-requires-clause-read : goal.recover_list-requires-clause-read
+recover_list-requires-clause-read g c =
+    c.in_ok-base.ensures.read c.args.uuid (subst (AreNamesOf c.args.uuid) (sym c.as_slice.ensures) c.in_ok-names.ensures.names)
+
+pub recover_list-requires-clause-names : goal.recover_list-requires-clause-names
+recover_list-requires-clause-names g c =
+    subst (AreNamesOf c.args.uuid) (sym c.as_slice-2.ensures) c.in_ok-names.ensures.names
 
 pub returns-in_err-log : goal.returns-in_err-log
 returns-in_err-log g c =
@@ -112,8 +120,6 @@ returns-in_err-log g c =
     let at = (goal.at.returns-in_err-log g c).In_ok-base in
     let same = same_before g at in
     let names = c.as_slice-2.result.now in
-    let lists = subst (λ list. IfSome old.objects (λ objects. Lists uuid objects list)) (sym c.as_slice-2.ensures)
-    c.in_ok-names.ensures.listed in
     let base = c.in_ok-base.base in
     let error = c.in_err-log.field-0.0 in
     let failed = c.in_err-log.ensures in
@@ -121,10 +127,10 @@ returns-in_err-log g c =
     (record {
       found = tt;
       refused = λ tells.
-          told_begun old.objects uuid geometry base.number base.end names (λ objects. IsRecoveryRefused volume objects error)
-          (newest g at tells) lists
+          told_then old.objects (IsRecoveryBegun uuid geometry base names) (λ objects. IsRecoveryRefused volume objects error)
+          (begun g at tells names (c.as_slice.ensures ∙ sym c.as_slice-2.ensures))
           (subst (λ (s : StoreState). IfSome s.objects (λ objects.
-          IsRecoveryBegun uuid geometry base.number base.end names objects → IsRecoveryRefused volume objects error)) same
+          IsRecoveryBegun uuid geometry base names objects → IsRecoveryRefused volume objects error)) same
           (failed.refused tells));
       unchanged = subst (λ (s : StoreState). OnlyCounts s new) same failed.unchanged;
       faults = subst (λ (s : StoreState). Counts (is_store_fault error) s.faults new.faults) same failed.faults;
@@ -134,22 +140,20 @@ returns-in_err-log g c =
 
 recovers : (g : given.Over) (c : In_ok-log g) → TellsBytes g.S.Receipt.Receipt.state
     → IfSome (g.S.Store.state c.args.store.now).objects
-    (λ objects. IsNewestWithEnd (expected_of c.args.uuid c.args.geometry) objects c.in_ok-base.base.number c.in_ok-base.base.end)
+    (IsRecoveryBegun c.args.uuid c.args.geometry c.in_ok-base.base c.as_slice-2.result.now)
     → g.S.Store.state c.newest_checkpoint.new.store ≡ g.S.Store.state c.args.store.now
     → IfSome (g.S.Store.state c.args.store.now).objects
     (λ objects. Recovers (expected_of c.args.uuid c.args.geometry) c.in_ok-base.base.number objects c.in_ok-log.log)
-recovers g c tells begun same =
+recovers g c tells from same =
     let told = (g.S.Store.state c.args.store.now).objects in
     let uuid = c.args.uuid in
     let geometry = c.args.geometry in
     let base = c.in_ok-base.base in
     let log = c.in_ok-log.log in
     let names = c.as_slice-2.result.now in
-    let lists = subst (λ list. IfSome told (λ objects. Lists uuid objects list)) (sym c.as_slice-2.ensures)
-    c.in_ok-names.ensures.listed in
-    told_begun told uuid geometry base.number base.end names
-    (λ objects. Recovers (expected_of uuid geometry) base.number objects log) begun lists
-    (subst (λ (s : StoreState). IfSome s.objects (λ objects. IsRecoveryBegun uuid geometry base.number base.end names objects
+    told_then told (IsRecoveryBegun uuid geometry base names)
+    (λ objects. Recovers (expected_of uuid geometry) base.number objects log) from
+    (subst (λ (s : StoreState). IfSome s.objects (λ objects. IsRecoveryBegun uuid geometry base names objects
     → Recovers (expected_of uuid geometry) base.number objects log)) same (c.in_ok-log.ensures.recovers tells))
 
 pub returns : goal.returns
@@ -162,17 +166,23 @@ returns g c =
     let listing = c.in_ok-names.ensures in
     let done = c.in_ok-log.ensures in
     let own = sym done.list.uuid_is in
+    let number = sym (ap (λ (b : ReadCheckpoint). b.number) c.base.view_is) in
+    let Found : ℕ → Type 0 = λ n. IfSome old.objects (λ objects.
+    Recovers (expected_of c.args.uuid c.args.geometry) n objects c.in_ok-log.log) in
     record {
       found = record {
         list = done.list;
-        from = done.from;
+        from = subst (λ n. n ≤ c.in_ok-log.log.uploads.window.last) number done.from;
         order = done.order;
         places = done.places;
         names = record {
           of_volume = subst (λ u. AreNamesOf u names) own listing.names;
           listed = subst (λ u. IfSome old.objects (λ objects. Lists u objects names)) own listing.listed;
         };
-        told = λ tells. recovers g at.In_ok-log tells (newest g at.In_ok-base tells) same;
+        told = λ tells.
+            subst Found number
+            (recovers g at.In_ok-log tells
+            (begun g at.In_ok-base tells c.as_slice-2.result.now (c.as_slice.ensures ∙ sym c.as_slice-2.ensures)) same);
       };
       refused = λ tells. tt;
       unchanged = subst (λ (s : StoreState). OnlyCounts s new) same done.unchanged;

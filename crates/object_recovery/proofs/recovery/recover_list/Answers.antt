@@ -1,44 +1,91 @@
-use Rattle.std.proofs.Common.{◌<◌, ◌≤◌, ◌^◌, ◌∙◌, None, subst, ap, arith}
-use Rattle.std.specs.Prelude.{IfSome}
+use Rattle.std.proofs.Common.{◌<◌, ◌^◌, ◌∙◌, Some, None, sym, subst, ap, arith}
+use Rattle.std.specs.Prelude.{IfSome, IsTrue}
 use Rattle.std.proofs.lemmas.Bool.Decides.{nat_tests}
+use Rattle.lsvd_base.specs.Limits.{is_within_limits}
 use Rattle.lsvd_base.specs.declared.geometry.Geometry.{Geometry}
 use Rattle.lsvd_fault.specs.Faults.{Counts}
 use Rattle.lsvd_objstore.specs.Store.{StoreState, OnlyCounts}
-use Rattle.upload_window.specs.Window.{WindowState}
-use Rattle.object_recovery.specs.Adoption.{IsRecoveryBegun, JudgesRest, RefusesRest}
-use Rattle.object_recovery.specs.Checkpoints.{expected_of}
+use Rattle.stopped_volume.specs.Store.{TellsBytes}
+use Rattle.object_format.specs.declared.expected.Expected.{Expected}
+use Rattle.object_recovery.specs.Adoption.{IsRecoveryBegun, RefusesBeside, RecoverListOf}
+use Rattle.object_recovery.specs.Checkpoints.{expected_of, ReadCheckpoint}
 use Rattle.object_recovery.specs.Faults.{is_store_fault}
 use Rattle.object_recovery.specs.Places.{HasPlacesInside}
-use Rattle.object_recovery.specs.Recovery.{IsListUpTo}
-use Rattle.object_recovery.proofs.FindLemmas.{same_store}
+use Rattle.object_recovery.proofs.FindLemmas.{same_store, passed_as}
 use Rattle.object_recovery.proofs.ListLemmas.{own_list}
-use Rattle.object_recovery.proofs.PlaceLemmas.{no_places}
-use Rattle.object_recovery.proofs.RecoverLemmas.{IsNewList, new_list}
-use Rattle.object_recovery.proofs.OutcomeLemmas.{told_failed, told_recovers, told_refuses}
-use Rattle.object_recovery.proofs.recovery.recover_list.Given as given
+use Rattle.object_recovery.proofs.OutcomeLemmas.{HasValueOf, refusal_counts, told_beside, recovers_so, told_failed}
 use Rattle.object_recovery.proofs.recovery.recover_list.Goals as goal
-use Rattle.object_recovery.proofs.recovery.recover_list.Goals.{In-Ok}
 
-pub adopt_all-requires-clause-list : goal.adopt_all-requires-clause-list
-adopt_all-requires-clause-list g c =
-    let base = c.args.base.now in
-    let made = c.new-log.ensures in
-    let low : c.args.geometry.sectors ≤ 2147483648 = grind (arith, nat_tests, c.requires) in
-    own_list c.args.uuid c.args.geometry base.number base.end c.new-log.result
-    (new_list c.args.uuid c.args.geometry base.number base.end c.new-log.result made.batch made.uuid made.sectors low made.window
-    made.frontier made.end made.sealed made.receipts made.removal made.settled made.log made.objects made.checkpoint).list
+-- ---- the list goes on
 
-pub adopt_all-requires-clause-places : goal.adopt_all-requires-clause-places
-adopt_all-requires-clause-places g c = no_places c.new-log.result.batch.geometry.sectors c.new-log.result.uploads.queue
-    c.new-log.ensures.settled
+pub go_on-requires-clause-list : goal.go_on-requires-clause-list
+go_on-requires-clause-list g c =
+    let base = c.args.base in
+    let begins = rw c.in-List.is at c.in_ok-log.ensures.begins in
+    own_list c.args.uuid c.args.geometry base.number base.end c.in-List.log begins.2.list
 
--- ---- the objects were not adopted
+pub go_on-requires-clause-limits : goal.go_on-requires-clause-limits
+go_on-requires-clause-limits g c =
+    let begins = rw c.in-List.is at c.in_ok-log.ensures.begins in
+    subst (λ sizes. IsTrue (is_within_limits sizes)) (sym begins.2.list.geometry_is) c.requires.limits
 
-pub returns-in-Err : goal.returns-in-Err
-returns-in-Err g c =
-    let told = (g.S.Store.state c.args.store.now).objects in
-    let base = c.args.base.now in
-    let Begun = IsRecoveryBegun c.args.uuid c.args.geometry base.number base.end c.args.names.now in
+pub go_on-requires-clause-order : goal.go_on-requires-clause-order
+go_on-requires-clause-order g c =
+    let begins = rw c.in-List.is at c.in_ok-log.ensures.begins in
+    begins.2.order
+
+pub go_on-requires-clause-places : goal.go_on-requires-clause-places
+go_on-requires-clause-places g c =
+    let begins = rw c.in-List.is at c.in_ok-log.ensures.begins in
+    subst (λ (sizes : Geometry). HasPlacesInside sizes.sectors c.in-List.log.uploads.queue) (sym begins.2.list.geometry_is)
+    begins.2.places
+
+pub returns-in-List : goal.returns-in-List
+returns-in-List g c =
+    let old = g.S.Store.state c.args.store.now in
+    let middle = g.S.Store.state c.begin_list.new.store in
+    let new = g.S.Store.state c.go_on.new.store in
+    let uuid = c.args.uuid in
+    let geometry = c.args.geometry in
+    let base = c.args.base in
+    let names = c.args.names.now in
+    let log = c.in-List.log in
+    let Tells : Type 0 = TellsBytes g.S.Receipt.Receipt.state in
+    let same = same_store old middle c.in_ok-log.ensures.unchanged c.in_ok-log.ensures.faults in
+    let begins = rw c.in-List.is at c.in_ok-log.ensures.begins in
+    let wide : geometry.sectors < 2 ^ 64 = grind (arith, nat_tests, c.requires.limits) in
+    subst (λ (s : StoreState). RecoverListOf Tells uuid geometry base names s new c.go_on.result) same
+    (recovers_so uuid geometry base begins.0 names wide begins.1 log begins.2 Tells middle new c.go_on.result
+    (λ tells. subst (λ (s : StoreState). IfSome s.objects (HasValueOf uuid geometry base begins.0 names wide begins.1 log))
+    (sym same) (begins.3 tells)) c.go_on.ensures)
+
+-- ---- an object is missing that the checkpoint maps
+
+pub returns-in_ok-refuse_beside-in-Missing : goal.returns-in_ok-refuse_beside-in-Missing
+returns-in_ok-refuse_beside-in-Missing g c =
+    let old = g.S.Store.state c.args.store.now in
+    let middle = g.S.Store.state c.begin_list.new.store in
+    let new = g.S.Store.state c.refuse_beside.new.store in
+    let uuid = c.args.uuid in
+    let geometry = c.args.geometry in
+    let base = c.args.base in
+    let names = c.args.names.now in
+    let missing = c.in-Missing.number in
+    let error = c.in_ok-refuse_beside-in-Missing.field-0 in
+    let read = c.requires.read in
+    let inside = c.base.inside in
+    let held : ReadCheckpoint = record {
+      number = inside.number;
+      end = inside.end;
+      bytes = inside.bytes.items;
+      receipt = g.S.Receipt.Receipt.state inside.receipt;
+    } in
+    let Refuses : StoreState → Expected → ReadCheckpoint → Type 0 = λ s v b. IfSome s.objects (λ objects.
+    RefusesBeside v objects (record { number = b.number; end = Some b.end; refused = None }) names missing error) in
+    let same = same_store old middle c.in_ok-log.ensures.unchanged c.in_ok-log.ensures.faults in
+    let begins = rw c.in-Missing.is at c.in_ok-log.ensures.begins in
+    let done = c.in_ok-refuse_beside-in-Missing.ensures in
+    let wide : geometry.sectors < 2 ^ 64 = grind (arith, nat_tests, c.requires.limits) in
     record {
       list = tt;
       from = tt;
@@ -46,90 +93,37 @@ returns-in-Err g c =
       places = tt;
       recovers = λ tells. tt;
       refused = λ tells.
-          told_failed told (expected_of c.args.uuid c.args.geometry) Begun c.in-Err.error c.in-Err.ensures.answer;
-      unchanged = c.in-Err.ensures.unchanged;
-      faults = c.in-Err.ensures.faults;
+          told_beside uuid geometry base read.rows names wide read.is old.objects missing error (begins tells)
+          (subst (Refuses old (expected_of uuid geometry)) c.base.view_is
+          (subst (λ v. Refuses old v held) c.expected_alone-volume.ensures
+          (subst (λ s. Refuses s c.expected_alone-volume.result held) same (done.refused tells))));
+      unchanged = subst (λ (s : StoreState). OnlyCounts s new) same done.unchanged;
+      faults = refusal_counts error old.faults new.faults done.refusal (done.faults ∙ ap (λ (s : StoreState). s.faults) same);
     }
 
--- ---- they were
-
-begun : (g : given.Over) (c : In-Ok g)
-    → IsNewList c.args.uuid c.args.geometry c.args.base.now.number c.args.base.now.end c.new-log.result
-begun g c =
-    let base = c.args.base.now in
-    let made = c.new-log.ensures in
-    let low : c.args.geometry.sectors ≤ 2147483648 = grind (arith, nat_tests, c.requires) in
-    new_list c.args.uuid c.args.geometry base.number base.end c.new-log.result made.batch made.uuid made.sectors low made.window
-    made.frontier made.end made.sealed made.receipts made.removal made.settled made.log made.objects made.checkpoint
-
-adopted : (g : given.Over) (c : In-Ok g)
-    → IsListUpTo c.args.uuid c.args.geometry c.adopt_all.new.log.uploads.window.last c.adopt_all.new.log.uploads.queue.end
-    c.adopt_all.new.log
-adopted g c =
-    let new = begun g c in
-    let log = c.adopt_all.new.log in
-    subst (λ u. IsListUpTo u c.args.geometry log.uploads.window.last log.uploads.queue.end log) new.list.uuid_is
-    (subst (λ (sizes : Geometry). IsListUpTo c.new-log.result.uploads.uuid sizes log.uploads.window.last log.uploads.queue.end
-    log)
-    new.list.geometry_is c.in-Ok.ensures.list)
-
-pub returns-in-Err-judge_rest : goal.returns-in-Err-judge_rest
-returns-in-Err-judge_rest g c =
+pub returns-in_err-refuse_beside-in-Missing : goal.returns-in_err-refuse_beside-in-Missing
+returns-in_err-refuse_beside-in-Missing g c =
     let old = g.S.Store.state c.args.store.now in
-    let middle = g.S.Store.state c.adopt_all.new.store in
-    let new = g.S.Store.state c.judge_rest.new.store in
-    let base = c.args.base.now in
+    let middle = g.S.Store.state c.begin_list.new.store in
+    let new = g.S.Store.state c.refuse_beside.new.store in
+    let uuid = c.args.uuid in
+    let geometry = c.args.geometry in
+    let base = c.args.base in
     let names = c.args.names.now in
-    let wide : c.args.geometry.sectors < 2 ^ 64 = grind (arith, nat_tests, c.requires) in
-    let log = c.adopt_all.new.log in
-    let done = c.in-Ok.ensures in
-    let same = same_store old middle done.unchanged done.faults in
-    let error = c.in-Err-judge_rest.error in
-    let judged = c.in-Err-judge_rest.ensures in
-    let left = c.in-Ok.left in
-    let at = (goal.at.returns-in-Err-judge_rest g c).In-Ok in
-    record {
+    let Tells : Type 0 = TellsBytes g.S.Receipt.Receipt.state in
+    let same = same_store old middle c.in_ok-log.ensures.unchanged c.in_ok-log.ensures.faults in
+    let error = c.in_err-refuse_beside-in-Missing.field-0.0 in
+    let failed = c.in_err-refuse_beside-in-Missing.ensures in
+    passed_as (RecoverListOf Tells uuid geometry base names old new)
+    c.from_residual-in_err-refuse_beside-in-Missing.result error c.from_residual-in_err-refuse_beside-in-Missing.ensures.1
+    (record {
       list = tt;
       from = tt;
       order = tt;
       places = tt;
       recovers = λ tells. tt;
       refused = λ tells.
-          told_refuses c.args.uuid c.args.geometry base.number base.end c.new-log.result log names left wide (begun g at)
-          (adopted g at) old.objects error (done.streams tells) (done.good tells) (done.ended tells)
-          (subst (λ (s : StoreState). IfSome s.objects (λ objects. RefusesRest objects log names left error)) same
-          (judged.refused tells));
-      unchanged = subst (λ (s : StoreState). OnlyCounts s new) same judged.unchanged;
-      faults = subst (λ n. Counts (is_store_fault error) n new.faults) done.faults judged.faults;
-    }
-
-pub returns-in-Ok-judge_rest : goal.returns-in-Ok-judge_rest
-returns-in-Ok-judge_rest g c =
-    let old = g.S.Store.state c.args.store.now in
-    let middle = g.S.Store.state c.adopt_all.new.store in
-    let new = g.S.Store.state c.judge_rest.new.store in
-    let base = c.args.base.now in
-    let names = c.args.names.now in
-    let wide : c.args.geometry.sectors < 2 ^ 64 = grind (arith, nat_tests, c.requires) in
-    let log = c.adopt_all.new.log in
-    let done = c.in-Ok.ensures in
-    let same = same_store old middle done.unchanged done.faults in
-    let judged = c.in-Ok-judge_rest.ensures in
-    let left = c.in-Ok.left in
-    let at = (goal.at.returns-in-Ok-judge_rest g c).In-Ok in
-    let is = begun g at in
-    record {
-      list = adopted g at;
-      from = subst (λ n. n ≤ log.uploads.window.last) (ap (λ (w : WindowState). w.last) is.list.window) done.from;
-      order = done.order;
-      places =
-          subst (λ (sizes : Geometry). HasPlacesInside sizes.sectors log.uploads.queue) is.list.geometry_is done.places;
-      recovers = λ tells.
-          told_recovers c.args.uuid c.args.geometry base.number base.end c.new-log.result log names left wide is (adopted g at)
-          old.objects (done.streams tells) (done.good tells) (done.ended tells)
-          (subst (λ (s : StoreState). IfSome s.objects (λ objects. JudgesRest objects log names left None)) same
-          (judged.judged tells));
-      refused = λ tells. tt;
-      unchanged = subst (λ (s : StoreState). OnlyCounts s new) same judged.unchanged;
-      faults = judged.faults ∙ done.faults;
-    }
+          told_failed old.objects (expected_of uuid geometry) (IsRecoveryBegun uuid geometry base names) error failed.answer;
+      unchanged = subst (λ (s : StoreState). OnlyCounts s new) same failed.unchanged;
+      faults = subst (λ (s : StoreState). Counts (is_store_fault error) s.faults new.faults) same failed.faults;
+    })

@@ -8,6 +8,7 @@ use Rattle.object_uploads.specs.Invariant.{count_out}
 use Rattle.object_uploads.proofs.RoomLemmas.{room_none}
 use Rattle.object_uploads.proofs.QueueKept.{newest_may_come}
 use Rattle.object_uploads.proofs.QueueSettled.{known_found}
+use Rattle.object_uploads.proofs.QueueKept.{known_kept}
 use Rattle.object_uploads.proofs.queue.Queue.add_found.Goals as goal
 
 pub push-requires-clause-last : goal.push-requires-clause-last
@@ -52,3 +53,18 @@ returns-clause-known g c =
     (c.push.ensures.list ∙ ap (λ (list : List NumberedReceipt). list ++ own ∷ []) c.reserve.ensures.list) refl
     (ap (λ (m : MapsState). m.objects.rows) added ∙ ap (λ (rows : List ObjectRow). rows ++ row ∷ []) e.rows)
     (ap (λ (m : MapsState). m.objects.checkpoint) added ∙ e.checkpoint) c.add_object.ensures.counted
+
+pub invariant_of-self-in_err-reserve-2 : goal.invariant_of-self-in_err-reserve-2
+invariant_of-self-in_err-reserve-2 g c =
+    let before = c.self.invariant in
+    let none = subst (λ (q : QueueState). q.sealed ≡ []) (sym c.self.view_is) c.requires.none in
+    let e = c.in_err-reserve-2.ensures in
+    let size = ap (λ (list : List SealedState). length list) none in (
+      room_none c.self.inside.sealed.items c.reserve-2.new.self none,
+      before.1,
+      known_kept _ _ before.2 refl c.reserve.ensures.list refl e.rows e.checkpoint e.settled_rows,
+      before.3,
+      omega (arith, before.4, c.reserve.ensures.kept),
+      omega (arith, size),
+      before.6,
+    )

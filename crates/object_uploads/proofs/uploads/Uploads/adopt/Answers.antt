@@ -3,8 +3,15 @@ use Rattle.lsvd_names.specs.Names.{numbered_name}
 use Rattle.object_uploads.specs.State.{UploadsState}
 use Rattle.object_uploads.specs.Queue.{FitObject}
 use Rattle.upload_window.specs.Window.{WindowState}
-use Rattle.object_uploads.proofs.UploadsKept.{uploads_adopted}
+use Rattle.object_uploads.proofs.UploadsKept.{uploads_same, uploads_adopted}
 use Rattle.object_uploads.proofs.uploads.Uploads.adopt.Goals as goal
+
+pub invariant_of-self : goal.invariant_of-self
+invariant_of-self g c =
+    let own = c.self.inside in
+    let e = c.in_err-adopt.ensures in
+    uploads_same own.uuid own.sectors own.window own.queue c.adopt.new.self c.self.invariant e.same.frontier e.sealed
+    e.same.receipts e.same.removal e.same.places
 
 pub invariant_of-self-2 : goal.invariant_of-self-2
 invariant_of-self-2 g c =

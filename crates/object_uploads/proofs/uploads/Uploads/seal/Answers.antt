@@ -3,7 +3,7 @@ use Rattle.object_uploads.specs.State.{UploadsState}
 use Rattle.object_uploads.specs.Queue.{FitObject}
 use Rattle.object_uploads.specs.declared.rows.SealedRows.TheVariants.{Data}
 use Rattle.object_uploads.proofs.OpenLemmas.{when_ok, full}
-use Rattle.object_uploads.proofs.UploadsKept.{uploads_sealed}
+use Rattle.object_uploads.proofs.UploadsKept.{uploads_sealed, uploads_same}
 use Rattle.object_uploads.proofs.uploads.Uploads.seal.Goals as goal
 
 pub invariant_of-self-2 : goal.invariant_of-self-2
@@ -18,3 +18,10 @@ invariant_of-self-2 g c =
     uploads_sealed own.uuid own.sectors own.window own.queue c.push.new.self c.args.object (Data c.args.rows) c.args.end
     c.self.invariant fit e.sealed e.frontier e.receipts e.removal e.places
     )
+
+pub invariant_of-self : goal.invariant_of-self
+invariant_of-self g c =
+    let own = c.self.inside in
+    let e = c.in_err-push.ensures in
+    uploads_same own.uuid own.sectors own.window own.queue c.push.new.self c.self.invariant e.frontier e.same e.receipts
+    e.removal e.places
