@@ -2,3 +2,11 @@ pub mod ShowLemmas
 pub mod FrontierLemmas
 pub mod SealLemmas
 pub mod JobLemmas
+pub mod TableLemmas
+pub mod PinShown
+pub mod TableRows
+pub mod SettledRows
+pub mod DoneTable
+pub mod TableChanged
+pub mod CheckpointShown
+pub mod RemovalShown

@@ -72,7 +72,7 @@ count_is batch entries n is =
 
 -- ---- the frontier stays
 
-below_entered : (objects : List OpenObject) (last : ℕ) (object : OpenObject) → object.number ≡ last + 1
+pub below_entered : (objects : List OpenObject) (last : ℕ) (object : OpenObject) → object.number ≡ last + 1
     → below_lowest (objects ++ object ∷ []) object.number ≡ below_lowest objects last
 below_entered [] last object is = omega arith
 below_entered (first ∷ objects) last object is = refl

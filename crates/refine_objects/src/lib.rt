@@ -5,5 +5,9 @@
 #![tactic(auto)]
 
 mod laws;
+mod table_laws;
 
 pub use laws::{calls_show_what_the_plain_volume_does, the_list_shows_a_plain_volume};
+pub use table_laws::{
+    calls_keep_what_the_table_shows, checkpoints_and_removals_show_the_plain_volume_s,
+};

@@ -1,0 +1,37 @@
+-- Contract: what the table of a list's objects means: which objects of the plain volume stand in the store, how often each is
+-- pinned, and which of them its newest acknowledged checkpoint maps.
+use Rattle.std.specs.Prelude.{◌≡◌, ℕ, ◌<◌, ◌≤◌, ◌==◌, ◌&&◌, Bool, not, nat_lt, is_some, Option, Some, None, IfSome, List}
+use Rattle.std.specs.Prelude.{count_by}
+use Rattle.std.specs.List.{All}
+use Rattle.object_table.specs.declared.row.ObjectRow.{ObjectRow}
+use Rattle.object_table.specs.Table.{row_of}
+use Rattle.object_uploads.specs.State.{QueueState}
+use Rattle.plain_disk.specs.State.{PlainState, PlainCheckpoint}
+use Rattle.plain_disk.specs.Removals.{maps, has}
+
+-- how often a number is among the pins of plans
+abbrev pub times_pinned : (number : ℕ) → (pins : List ℕ) → ℕ
+times_pinned number pins = count_by (λ pin. pin == number) pins
+
+-- the pins that are on the object of a row, none on one that is not in the table
+abbrev pub pins_of : Option ObjectRow → ℕ
+pins_of None = 0
+pins_of (Some row) = row.pins
+
+-- a checkpoint came after the object of a number, and does not map it
+abbrev pub passes_unmapped : PlainCheckpoint → (number : ℕ) → Bool
+passes_unmapped checkpoint number = nat_lt number checkpoint.number && not (maps checkpoint number)
+
+-- The table shows a plain volume: the newest acknowledged checkpoint is the same, and the removal that is out; it has just the
+-- objects up to the frontier that were not removed, says of each whether that checkpoint passed it and does not map it, and how
+-- often it is pinned. What is being removed is not pinned, and what was removed that checkpoint came after.
+pub record ShowsTable (queue : QueueState) (plain : PlainState) : Type 0 where
+  pub checkpoint : queue.maps.objects.checkpoint ≡ plain.checkpoint.number
+  pub removal : queue.removal ≡ plain.removal
+  pub known : (number : ℕ) → 1 ≤ number → number ≤ queue.frontier
+      → is_some (row_of number queue.maps.objects.rows) ≡ not (has plain.removed number)
+  pub unmapped : (number : ℕ) → IfSome (row_of number queue.maps.objects.rows) (λ row.
+      row.is_unmapped ≡ passes_unmapped plain.checkpoint number)
+  pub pins : (number : ℕ) → pins_of (row_of number queue.maps.objects.rows) ≡ times_pinned number plain.pins
+  pub free : IfSome plain.removal (λ number. times_pinned number plain.pins ≡ 0)
+  pub gone : All (λ number. number < plain.checkpoint.number) plain.removed
