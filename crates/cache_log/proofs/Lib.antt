@@ -8,7 +8,10 @@ mod Stops
 mod CommittedLemmas
 mod ReadCounts
 mod ReadLemmas
+mod AheadLemmas
+mod PaidLemmas
 mod ReadRowsLemmas
+mod PaidRows
 mod WriteLemmas
 mod AppendLemmas
 mod FormatLemmas

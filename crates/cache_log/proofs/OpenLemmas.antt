@@ -1,7 +1,7 @@
 -- A log that was opened.
 use Rattle.std.proofs.Common.{◌≡◌, ℕ, ◌+◌, ◌^◌, ◌<◌, ◌≤◌, IsTrue, List, [], ◌∷◌, ◌++◌, length, append-nil, map, refl, sym, ◌∙◌}
 use Rattle.std.proofs.Common.{ap, subst, arith}
-use Rattle.std.specs.Prelude.{Option, None, IfSome}
+use Rattle.std.specs.Prelude.{Option, None, IfSome, true}
 use Rattle.std.proofs.Math.Path.{subst₂}
 use Rattle.std.proofs.lemmas.Bool.Decides.{nat_tests}
 use Rattle.lsvd_base.specs.declared.geometry.Geometry.{Geometry}
@@ -19,14 +19,13 @@ use Rattle.commit_slot.specs.Commits.{CommitsState}
 use Rattle.commit_slot.specs.LogArea.{log_area, LeavesLogArea}
 use Rattle.cache_log.specs.declared.row.Row.{Row}
 use Rattle.cache_log.specs.Rows.{byte_of, entry_of, AreNumbered, Follow, end_of_rows, HaveRecords, since, between}
-use Rattle.cache_log.specs.Reads.{headers_of_rows}
+use Rattle.cache_log.specs.Reads.{AreReadOnly, headers_of_rows, pieces_in}
 use Rattle.cache_log.specs.Log.{entries_in}
 use Rattle.cache_log.specs.Opening.{sectors_between, AreRowsOfLog, AreRecordsInRange, IsOpenedLog}
-use Rattle.cache_log.specs.Headers.{AreReadTimes}
 use Rattle.cache_log.specs.Invariant.{IsLog, IsCommitOfRows, IsCommitOfLog, AreCommitsOfLog, Holds}
 use Rattle.cache_log.proofs.CommittedLemmas.{view_of, none_each, HeldAt}
 use Rattle.cache_log.proofs.LogAreaLemmas.{same_log_area}
-use Rattle.cache_log.proofs.ReadCounts.{only_of_times, headers_most}
+use Rattle.cache_log.proofs.ReadCounts.{only_more, headers_most}
 use Rattle.cache_log.proofs.RowLemmas.{between_most, between_further, entries_range}
 use Rattle.cache_log.proofs.Slices.{since_numbered, between_all, map_between}
 use Rattle.cache_log.proofs.WriteLemmas.{held_same}
@@ -105,13 +104,13 @@ pub opened_log : (geometry : Geometry) (rows : List Row) (count : ℕ) (old new 
     → MayStand old.body geometry.log → old.unfinished ≡ None
     → HoldsNow (λ now. LeavesLogArea (log_area now.bytes) now) old.disk.moments
     → AreRowsOfLog geometry old.body rows → HoldsNow (λ now. AreRecordsInRange geometry old.body rows now.bytes) old.disk.moments
-    → AreReadTimes count old new → old.body.head.seq < 2 ^ 64
+    → AreReadOnly count true old new → old.body.head.seq < 2 ^ 64
     → IsLog (room_of geometry.log old.body.head.position (sectors_between geometry.log old.body)) old.body.tail [] rows new
 opened_log geometry rows count old new limits sectors least may none durable are read made numbers =
     let log : ℕ = geometry.log in
     let body : CommitBody = old.body in
     let place : Room = room_of log body.head.position (sectors_between log body) in
-    let size = made.calls.size in
+    let size = made.reads.calls.size in
     let seqs = are.seqs in
     let one = opened_commit geometry body rows may are in
     let from = since_numbered rows body.tail.seq body.tail.seq (omega arith) are.numbered in
@@ -171,9 +170,11 @@ pub is_opened : (geometry : Geometry) (rows : List Row) (old new : CommitsState)
     → place ≡ room_of geometry.log old.body.head.position (sectors_between geometry.log old.body) → MayStand old.body geometry.log
     → byte_of geometry.log ≤ old.disk.size → AllByRecursion (HasSize old.disk.size) old.disk.moments
     → AreRowsOfLog geometry old.body rows → HoldsNow (λ now. AreRecordsInRange geometry old.body rows now.bytes) old.disk.moments
-    → AreReadTimes (headers_of_rows geometry.log old.body.tail.position rows) old new
+    → AreReadOnly (headers_of_rows geometry.log old.body.tail.position rows) true old new
+    → AreReadOnly (pieces_in (sectors_between geometry.log old.body)) true old new
     → IsOpenedLog geometry old (view_of place mark held listed new reserved)
-is_opened geometry rows old new place mark held listed reserved mark_is held_is listed_is place_is may fits media are read times =
+is_opened geometry rows old new place mark held listed reserved mark_is held_is listed_is place_is may fits media are read made
+    few_pieces =
     let few = headers_most geometry.log old.body.tail.position rows in
     let seqs = are.seqs in
     subst₂ (λ h l. IsOpenedLog geometry old (view_of place mark h l new reserved)) (sym held_is) (sym listed_is) (record {
@@ -182,11 +183,12 @@ is_opened geometry rows old new place mark held listed reserved mark_is held_is 
       start = ap (λ m. m.position) mark_is;
       first = ap (λ m. m.seq) mark_is;
       rows = are;
-      entries = ap (entries_in rows) times.moments;
+      entries = ap (entries_in rows) made.moments;
       all = refl;
       records = read;
       in_range = subst (λ m. IfSome (entries_in rows m) (AllByRecursion (λ entry. IsTrue (is_in_range geometry entry))))
-          (sym times.moments) (opened_range geometry rows old.body old.disk.size old.disk.moments may fits media are);
-      only = only_of_times _ _ old new times (omega (arith, few, seqs));
-      reads = times.calls;
+          (sym made.moments) (opened_range geometry rows old.body old.disk.size old.disk.moments may fits media are);
+      only = only_more _ _ true old new made (omega (arith, few, seqs));
+      reads = made.reads;
+      pieces = few_pieces.reads;
     })

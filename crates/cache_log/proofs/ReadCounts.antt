@@ -13,7 +13,6 @@ use Rattle.cache_log.specs.declared.row.Row.{Row}
 use Rattle.cache_log.specs.Rows.{position_of, next, end_of_rows}
 use Rattle.cache_log.specs.Reads.{reads_cost, AreReadOnly, headers_of, headers_of_rows, opens_without_fault, reads_without_fault}
 use Rattle.cache_log.specs.Laws.{AreAtMostTwoEach}
-use Rattle.cache_log.specs.Headers.{AreReadTimes}
 
 -- commits that are as before twice are as before
 pub as_before_then : (old middle new : CommitsState) → IsAsBefore old middle → IsAsBefore middle new → IsAsBefore old new
@@ -23,7 +22,7 @@ as_before_then old middle new first second = record {
   same_unfinished = second.same_unfinished ∙ first.same_unfinished;
 }
 
--- ---- this many reads
+-- ---- no read, and one
 
 -- no read at all
 pub nothing_taken : (budget : Option Budget) → Takes (reads_cost 0) true budget budget
@@ -47,11 +46,15 @@ nothing_taken (Some budget) = (budget, refl, λ calls bytes. nothing_within budg
           bytes = omega arith;
         }
 
-pub read_none : (commits : CommitsState) → AreOnDisk commits → AreReadTimes 0 commits commits
-read_none commits on_disk = record {
+pub read_none : (most : ℕ) (commits : CommitsState) → AreOnDisk commits → AreReadOnly most true commits commits
+read_none most commits on_disk = record {
   same = record { same_number = refl; same_body = refl; same_unfinished = refl };
   moments = refl;
-  calls = record { size = refl; faults = refl; budget = nothing_taken commits.disk.budget };
+  reads = record {
+    count = 0;
+    within = omega arith;
+    calls = record { size = refl; faults = refl; budget = nothing_taken commits.disk.budget };
+  };
   on_disk = on_disk;
 }
 
@@ -65,25 +68,7 @@ one_read is_made old new same moments calls on_disk = record {
   on_disk = on_disk;
 }
 
-pub times_then : (a b : ℕ) (old middle new : CommitsState) → AreReadTimes a old middle → AreReadTimes b middle new
-    → AreReadTimes (a + b) old new
-times_then a b old middle new first second = record {
-  same = as_before_then old middle new first.same second.same;
-  moments = second.moments ∙ first.moments;
-  calls = made_then (reads_cost a) (reads_cost b) true old.disk middle.disk new.disk first.calls second.calls;
-  on_disk = second.on_disk;
-}
-
 -- ---- at most this many
-
-pub only_of_times : (count most : ℕ) (old new : CommitsState) → AreReadTimes count old new → count ≤ most
-    → AreReadOnly most true old new
-only_of_times count most old new times within = record {
-  same = times.same;
-  moments = times.moments;
-  reads = record { count = count; within = within; calls = times.calls };
-  on_disk = times.on_disk;
-}
 
 pub only_then : (a b most : ℕ) (is_made : Bool) (old middle new : CommitsState) → AreReadOnly a true old middle
     → AreReadOnly b is_made middle new → a + b ≤ most → AreReadOnly most is_made old new

@@ -1,5 +1,5 @@
 -- What reads of a log find.
-use Rattle.std.proofs.Common.{◌≡◌, ℕ, ◌+◌, ◌-◌, ◌*◌, ◌/◌, ◌^◌, ◌<◌, ◌≤◌, List, [], ◌∷◌, ◌++◌, zero, suc, get_or, length, take}
+use Rattle.std.proofs.Common.{◌≡◌, ℕ, ◌+◌, ◌-◌, ◌*◌, ◌/◌, ◌<◌, ◌≤◌, List, [], ◌∷◌, ◌++◌, zero, suc, get_or, length, take}
 use Rattle.std.proofs.Common.{drop, map, refl, sym, ◌∙◌, ap, subst, inl, inr, arith}
 use Rattle.std.specs.Prelude.{Some, IfSome, Result, Ok, Err, OnOk, IfOk}
 use Rattle.std.proofs.Math.Path.{subst₂}
@@ -9,7 +9,7 @@ use Rattle.std.proofs.lemmas.List.{map-append, drop-map}
 use Rattle.lsvd_base.specs.declared.entry.Entry.{Entry}
 use Rattle.lsvd_bytes.specs.Places.{bytes_at}
 use Rattle.lsvd_device.specs.Medium.{Medium}
-use Rattle.lsvd_device.specs.Device.{DiskState, HasSize, HoldsNow}
+use Rattle.lsvd_device.specs.Device.{HasSize, HoldsNow}
 use Rattle.log_room.specs.Room.{Room}
 use Rattle.log_record.specs.Grammar.{data_of}
 use Rattle.commit_body.specs.declared.body.Mark.{Mark}
@@ -169,21 +169,11 @@ all_of_so_far rows skipped index list end so_far =
     subst (λ r. AreRowsOf r list) (take_all (index - skipped) (drop skipped rows) enough) so_far
 
 -- a row that is one of many that lie inside the disk
-pub row_lies : (rows : List Row) (index : ℕ) (row : Row) (disk : DiskState) → index < length rows → row ≡ get_or rows index row
-    → RowsLieInside rows disk → RowLiesInside row disk
-row_lies [] index row disk inside is all = absurd (omega (arith, inside))
-row_lies (first ∷ rows) zero row disk inside is all = subst (λ r. RowLiesInside r disk) (sym is) all.0
-row_lies (first ∷ rows) (suc index) row disk inside is all = row_lies rows index row disk (omega (arith, inside)) is all.1
-
-pub lies_in_same : (row : Row) (old new : DiskState) → new.size ≡ old.size → RowLiesInside row old → RowLiesInside row new
-lies_in_same row old new same lies = (lies.0, omega (arith, same, lies.1))
-
--- all rows of a log lie inside its disk
-pub log_lies : (rows : List Row) (log : ℕ) (disk : DiskState) → log ≤ 2 ^ 31 → byte_of log ≤ disk.size
-    → AllByRecursion (λ row. position_of row + record_size row ≤ log) rows → RowsLieInside rows disk
-log_lies [] log disk limit fits inside = tt
-log_lies (row ∷ rows) log disk limit fits inside =
-    ((omega (arith, inside.0, limit), omega (arith, inside.0, fits)), log_lies rows log disk limit fits inside.1)
+pub row_lies : (rows : List Row) (index : ℕ) (row : Row) (log : ℕ) → index < length rows → row ≡ get_or rows index row
+    → RowsLieInside rows log → RowLiesInside row log
+row_lies [] index row log inside is all = absurd (omega (arith, inside))
+row_lies (first ∷ rows) zero row log inside is all = subst (λ r. RowLiesInside r log) (sym is) all.0
+row_lies (first ∷ rows) (suc index) row log inside is all = row_lies rows index row log (omega (arith, inside)) is all.1
 
 -- what is read from a seq on, of a log whose device tells what it holds
 entries_after : (rows : List Row) (skipped : ℕ) (list : List Entry) (moments : List Medium)

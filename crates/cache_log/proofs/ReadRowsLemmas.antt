@@ -83,8 +83,8 @@ all_more P [] row all one = (one, tt)
 all_more P (first ∷ rows) row all one = (all.0, all_more P rows row all.1 one)
 
 -- the log's room up to a place of the rows
-far_further : (geometry : Geometry) (body : CommitBody) (rows : List Row) (position to_head seq : ℕ) → MayStand body geometry.log
-    → (far : IsFar geometry body rows position to_head seq)
+pub far_further : (geometry : Geometry) (body : CommitBody) (rows : List Row) (position to_head seq : ℕ)
+    → MayStand body geometry.log → (far : IsFar geometry body rows position to_head seq)
     → (far.used ≤ geometry.log) × IsFurther geometry.log body.tail.position far.used position
 far_further geometry body rows position to_head seq may far =
     let most : far.used ≤ geometry.log = (let e = between_most geometry.log body may in let s = far.sum in omega (arith, e, s)) in

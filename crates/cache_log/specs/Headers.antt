@@ -2,20 +2,17 @@
 use Rattle.std.specs.Prelude.{◌≡◌, ℕ, ◌-◌, ◌≤◌, ◌⊎◌, IsTrue, true, List}
 use Rattle.lsvd_base.specs.declared.geometry.Geometry.{Geometry}
 use Rattle.lsvd_device.specs.Medium.{Medium}
-use Rattle.lsvd_device.specs.Device.{HoldsNow, MakesCalls}
+use Rattle.lsvd_device.specs.Device.{HoldsNow}
 use Rattle.log_record.specs.declared.head.Head.{Head}
 use Rattle.log_record.specs.declared.head.Head.TheVariants as heads
 use Rattle.log_record.specs.declared.head.Place.{Place}
 use Rattle.log_record.specs.Grammar.{IsHeader}
 use Rattle.log_record.specs.Tests.{IsRefusedAs}
-use Rattle.commit_slot.specs.Commits.{CommitsState, IsAsBefore}
-use Rattle.commit_slot.specs.OnDisk.{AreOnDisk}
 use Rattle.cache_log.specs.declared.error.OpenError.{OpenError}
 use Rattle.cache_log.specs.declared.error.OpenError.TheVariants as open_errors
 use Rattle.cache_log.specs.declared.row.Row.{Row}
 use Rattle.cache_log.specs.declared.row.Row.TheVariants.{Write, Zero}
 use Rattle.cache_log.specs.Rows.{seq_of, position_of, log_sectors, StandsFrom, sectors_taken}
-use Rattle.cache_log.specs.Reads.{reads_cost}
 use Rattle.cache_log.specs.Opening.{is_row_in_range, after_pad, IsRefusedAt}
 
 -- what the header of a row's record says
@@ -58,10 +55,3 @@ IsBadRow geometry place seq moments (open_errors.BadRecord n reason) =
     (n ≡ seq) × HoldsNow (λ now. IsRefusedAt geometry place seq now.bytes reason) moments
 IsBadRow geometry place seq moments open_errors.DeviceFault = Unit {0}
 IsBadRow geometry place seq moments open_errors.OutOfMemory = Unit {0}
-
--- the commits are as before, and exactly this many reads of their device were made
-pub record AreReadTimes (count : ℕ) (old new : CommitsState) : Type 0 where
-  pub same : IsAsBefore old new
-  pub moments : new.disk.moments ≡ old.disk.moments
-  pub calls : MakesCalls (reads_cost count) true old.disk new.disk
-  pub on_disk : AreOnDisk new

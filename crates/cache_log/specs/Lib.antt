@@ -5,5 +5,7 @@ pub mod Opening
 pub mod Committed
 pub mod Laws
 pub mod Headers
+pub mod Pieces
+pub mod Paid
 pub mod Writing
 pub mod Invariant

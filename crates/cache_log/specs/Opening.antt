@@ -6,7 +6,7 @@ use Rattle.lsvd_base.specs.declared.geometry.Geometry.{Geometry}
 use Rattle.lsvd_base.specs.Limits.{covers, may_transfer}
 use Rattle.lsvd_base.specs.Range.{is_in_range}
 use Rattle.lsvd_device.specs.Medium.{Medium}
-use Rattle.lsvd_device.specs.Device.{HoldsNow, MakesCalls}
+use Rattle.lsvd_device.specs.Device.{HoldsNow}
 use Rattle.log_room.specs.Room.{room_of, distance}
 use Rattle.log_record.specs.declared.head.Head.TheVariants as heads
 use Rattle.log_record.specs.declared.head.Place.{Place}
@@ -20,7 +20,7 @@ use Rattle.cache_log.specs.declared.error.OpenError.TheVariants as open_errors
 use Rattle.cache_log.specs.declared.row.Row.{Row}
 use Rattle.cache_log.specs.declared.row.Row.TheVariants.{Write, Zero}
 use Rattle.cache_log.specs.Rows.{log_sectors, AreNumbered, Follow, end_of_rows, HaveRecords}
-use Rattle.cache_log.specs.Reads.{reads_cost, headers_of_rows, AreReadOnly}
+use Rattle.cache_log.specs.Reads.{headers_of_rows, pieces_in, MakesReads, AreReadOnly}
 use Rattle.cache_log.specs.Log.{LogState, entries_in}
 
 -- ---- what is read
@@ -66,8 +66,8 @@ pub record AreRowsOfLog (geometry : Geometry) (body : CommitBody) (rows : List R
 abbrev pub entry_count : CommitBody → ℕ
 entry_count body = body.head.seq - body.tail.seq
 
--- The log has the records from the last commit's tail up to its head, and the header of each was read once, and that of
--- each pad between them.
+-- The log has the records from the last commit's tail up to its head. At most as many reads were made as these and the pads
+-- between them have headers, and no more than their sectors have pieces.
 pub record IsOpenedLog (geometry : Geometry) (commits : CommitsState) (log : LogState) : Type 0 where
   pub room : log.room ≡ room_of geometry.log commits.body.head.position (sectors_between geometry.log commits.body)
   pub held : log.held ≡ []
@@ -79,8 +79,8 @@ pub record IsOpenedLog (geometry : Geometry) (commits : CommitsState) (log : Log
   pub records : HoldsNow (λ now. AreRecordsInRange geometry commits.body log.rows now.bytes) commits.disk.moments
   pub in_range : IfSome log.entries (AllByRecursion (λ entry. IsTrue (is_in_range geometry entry)))
   pub only : AreReadOnly (2 * entry_count commits.body) true commits log.commits
-  pub reads : MakesCalls (reads_cost (headers_of_rows geometry.log commits.body.tail.position log.rows)) true commits.disk
-      log.commits.disk
+  pub reads : MakesReads (headers_of_rows geometry.log commits.body.tail.position log.rows) true commits.disk log.commits.disk
+  pub pieces : MakesReads (pieces_in (sectors_between geometry.log commits.body)) true commits.disk log.commits.disk
 
 -- ---- why a log is not opened
 

@@ -1,5 +1,5 @@
 -- Contract: what reading a log leaves, and how many reads it takes.
-use Rattle.std.specs.Prelude.{◌≡◌, ℕ, ◌+◌, ◌≤◌, nat_lt, if◌then◌else◌, Bool, true, false, List, [], ◌∷◌}
+use Rattle.std.specs.Prelude.{◌≡◌, ℕ, ◌+◌, ◌/◌, ◌≤◌, nat_lt, if◌then◌else◌, Bool, true, false, List, [], ◌∷◌}
 use Rattle.lsvd_device.specs.Calls.{Cost}
 use Rattle.lsvd_device.specs.Device.{DiskState, MakesCalls}
 use Rattle.commit_slot.specs.Commits.{CommitsState, IsAsBefore}
@@ -27,6 +27,15 @@ pub record AreReadOnly (most : ℕ) (are_made : Bool) (old new : CommitsState) :
   pub moments : new.disk.moments ≡ old.disk.moments
   pub reads : MakesReads most are_made old.disk new.disk
   pub on_disk : AreOnDisk new
+
+-- the most sectors that are read ahead at once
+abbrev pub piece_sectors : ℕ
+piece_sectors = 2048
+
+-- the most pieces that so many sectors of a log have: all are whole, but for one that ends at the log's end and one that ends
+-- at the head
+abbrev pub pieces_in : ℕ → ℕ
+pieces_in sectors = sectors / piece_sectors + 2
 
 -- the headers that are read of a row that stands from a sector on: its own, and that of the pad before it
 abbrev pub headers_of : (from : ℕ) → Row → ℕ

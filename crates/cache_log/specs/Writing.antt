@@ -3,12 +3,12 @@ use Rattle.std.specs.Prelude.{◌≡◌, ℕ, ◌+◌, ◌-◌, ◌<◌, ◌≤�
 use Rattle.std.specs.List.{AllByRecursion}
 use Rattle.lsvd_device.specs.Medium.{after_write}
 use Rattle.lsvd_device.specs.Calls.{write_cost}
-use Rattle.lsvd_device.specs.Device.{DiskState, moments_after, FailsToWrite}
+use Rattle.lsvd_device.specs.Device.{moments_after, FailsToWrite}
 use Rattle.lsvd_device.specs.Sequence.{Write}
 use Rattle.commit_slot.specs.Commits.{CommitsState, IsAsBefore, IsLast, LeavesSince}
 use Rattle.commit_slot.specs.Sequence.{Costs}
 use Rattle.commit_slot.specs.OnDisk.{AreOnDisk}
-use Rattle.log_room.specs.Room.{Room, max_log, pad_before}
+use Rattle.log_room.specs.Room.{Room, pad_before}
 use Rattle.log_record.specs.Grammar.{IsHeaderOf}
 use Rattle.log_record.specs.declared.head.Head.TheVariants.{Pad}
 use Rattle.cache_log.specs.declared.row.Row.{Row}
@@ -48,10 +48,9 @@ pub record FailsToPad (room : Room) (sectors seq : ℕ) (old new : CommitsState)
   pub is_pad : IsHeaderOf (Pad (pad_before room sectors - 1)) seq piece
   pub not_written : IsNotWrittenAt (byte_of room.head) piece old new
 
--- the record of a row lies inside the log, and the log inside the disk
-abbrev pub RowLiesInside : Row → DiskState → Type 0
-RowLiesInside row disk =
-    (position_of row + record_size row ≤ max_log) × (byte_of (position_of row + record_size row) ≤ disk.size)
+-- the record of a row lies inside a log of so many sectors
+abbrev pub RowLiesInside : Row → (log : ℕ) → Type 0
+RowLiesInside row log = position_of row + record_size row ≤ log
 
-abbrev pub RowsLieInside : List Row → DiskState → Type 0
-RowsLieInside rows disk = AllByRecursion (λ row. RowLiesInside row disk) rows
+abbrev pub RowsLieInside : List Row → (log : ℕ) → Type 0
+RowsLieInside rows log = AllByRecursion (λ row. RowLiesInside row log) rows

@@ -85,6 +85,14 @@ impl From<Failed> for OpenError {
     }
 }
 
+impl From<AllocError> for OpenError {
+    ghost from_gives = { λ _ e. e ≡ open_errors.OutOfMemory };
+
+    fn from(_: AllocError) -> OpenError {
+        OpenError::OutOfMemory
+    }
+}
+
 impl<T: Drop> From<AllocFailed<T>> for OpenError {
     ghost from_gives = { λ _ e. e ≡ open_errors.OutOfMemory };
 

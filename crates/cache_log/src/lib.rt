@@ -14,6 +14,7 @@ mod error;
 mod laws;
 mod log;
 mod opening;
+mod reading_ahead;
 mod release;
 mod row;
 mod transfer;

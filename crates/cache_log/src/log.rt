@@ -136,7 +136,9 @@ impl<D: Disk> CacheLog<D> {
     /// Opens the log of some commits, of which the last has its entries: those from its tail up to
     /// its head. The log has the geometry's sectors, no commit is unfinished, and a stop leaves the
     /// log area just as a read gives it (conditions, which hold after `Commits::load` of a device
-    /// with such a log). Nothing is written, and at most two headers are read for each entry.
+    /// with such a log). Nothing is written. The log is read in pieces of a mebibyte, but for one
+    /// that ends at the log's end and one that ends at the head, and by no more calls than there are
+    /// headers: an entry has one, and a pad before it another.
     ///
     /// An error comes with the commits: `BadRecord` exactly where there is no list of records up to
     /// the head, with the seq of the first that is none, and the first test that its header fails,
@@ -357,9 +359,9 @@ impl<D: Disk> CacheLog<D> {
         self.commits.read(byte_of(sector), buf)
     }
 
-    /// The entries with this seq and greater ones, in their order, by at most one read for each.
-    /// `DeviceFault` comes where the device could not be read, and `OutOfMemory` where memory for
-    /// them ran out.
+    /// The entries with this seq and greater ones, in their order. The log is read in pieces of up to
+    /// a mebibyte, by at most one call for each entry. `DeviceFault` comes where the device could not
+    /// be read, and `OutOfMemory` where memory for them ran out.
     pub fn entries_from(&mut self, alloc: Global, seq: u64) -> Result<Vec<Entry>, LogReadError>
         ensures entries { IfOk result (λ list.
             IfSome self.old.entries (λ all. list.items ≡ drop (seq - self.old.first) all)) }
@@ -372,7 +374,7 @@ impl<D: Disk> CacheLog<D> {
             self.old self.new) }
     {
         let skipped = self.dropped + self.count_below(seq);
-        read_entries(alloc, &mut self.commits, &self.rows, skipped)
+        read_entries(alloc, &mut self.commits, &self.rows, skipped, &self.room)
     }
 
     /// Commits all entries so far: whenever the device stops it reads as the last commit, as the

@@ -6,17 +6,19 @@ ghost use Rattle.log_room.specs.Room.{max_log};
 ghost use Rattle.log_record.specs.Grammar.{is_in_range, fits, IsHeader};
 ghost use Rattle.commit_body.specs.Body.{MayStand};
 ghost use Rattle.commit_slot.specs.OnDisk.{AreOnDisk};
-ghost use Rattle.cache_log.specs.Rows.{byte_of, log_sectors, seq_of, position_of};
-ghost use Rattle.cache_log.specs.Reads.{headers_of, headers_of_rows, AreReadOnly};
+ghost use Rattle.cache_log.specs.Rows.{byte_of, log_sectors, seq_of, position_of, sectors_taken};
+ghost use Rattle.cache_log.specs.Reads.{headers_of, headers_of_rows, pieces_in, AreReadOnly};
 ghost use Rattle.cache_log.specs.Reads.{opens_without_fault};
 ghost use Rattle.cache_log.specs.Opening.{entry_count, AreRecordsInRange, AreRowsOfLog};
 ghost use Rattle.cache_log.specs.Opening.{sectors_between, IsBadLog};
 ghost use Rattle.cache_log.specs.Headers.{head_of_row, IsPad, HasRow, FitsFrom, IsBadHeader};
-ghost use Rattle.cache_log.specs.Headers.{IsBadRow, AreReadTimes};
+ghost use Rattle.cache_log.specs.Headers.{IsBadRow};
+ghost use Rattle.cache_log.specs.Pieces.{IsReadAhead};
+ghost use Rattle.cache_log.specs.Paid.{Pays};
 
 use crate::error::OpenError;
+use crate::reading_ahead::ReadAhead;
 use crate::row::Row;
-use crate::transfer::byte_of;
 use commit_body::CommitBody;
 use commit_slot::Commits;
 use log_record::{Head, Place, decode};
@@ -26,7 +28,8 @@ use lsvd_device::Disk;
 use std::alloc::Global;
 use std::collections::VecDeque;
 
-// Reads the rows of the log of some commits: from the last one's tail up to its head.
+// Reads the rows of the log of some commits, from the last one's tail up to its head, in pieces of up
+// to a mebibyte.
 pub(crate) fn read_rows<D: Disk>(
     alloc: Global,
     commits: &mut Commits<D>,
@@ -40,8 +43,11 @@ pub(crate) fn read_rows<D: Disk>(
     ensures records { IfOk result (λ rows. HoldsNow
         (λ now. AreRecordsInRange geometry.now commits.old.body rows.items now.bytes)
         commits.old.disk.moments) }
-    ensures read { IfOk result (λ rows. AreReadTimes
-        (headers_of_rows geometry.now.log commits.old.body.tail.position rows.items)
+    ensures read { IfOk result (λ rows. AreReadOnly
+        (headers_of_rows geometry.now.log commits.old.body.tail.position rows.items) true
+        commits.old commits.new) }
+    ensures pieces { OnOk result (AreReadOnly
+        (pieces_in (sectors_between geometry.now.log commits.old.body)) true
         commits.old commits.new) }
     ensures bad { IfErr result (λ e.
         IsBadLog geometry.now commits.old.body commits.old.disk.moments e) }
@@ -50,9 +56,10 @@ pub(crate) fn read_rows<D: Disk>(
         commits.old commits.new) }
 {
     let body = commits.body();
-    let mut rows = VecDeque::new(alloc);
     let mut position = body.tail.position;
     let mut to_head = sectors_between(&body, geometry.log);
+    let mut ahead = ReadAhead::new(alloc, to_head)?;
+    let mut rows = VecDeque::new(alloc);
     for seq in body.tail.seq..body.head.seq {
         let is_last = seq + 1 == body.head.seq;
         let place = Place {
@@ -60,7 +67,7 @@ pub(crate) fn read_rows<D: Disk>(
             to_head,
             is_last,
         };
-        let row = read_row(commits, geometry, &place, seq)?;
+        let row = read_row(commits, &mut ahead, geometry, &place, seq)?;
         to_head -= row.sectors_taken(geometry.log, position);
         position = row.next(geometry.log);
         rows.push_back(row)?;
@@ -85,6 +92,7 @@ pub(crate) fn sectors_between(body: &CommitBody, log: u64) -> u64
 // Reads the row of the record with this seq at a place, or after the pad that stands there.
 fn read_row<D: Disk>(
     commits: &mut Commits<D>,
+    ahead: &mut ReadAhead,
     geometry: &Geometry,
     place: &Place,
     seq: u64,
@@ -93,17 +101,23 @@ fn read_row<D: Disk>(
     requires inside { byte_of geometry.now.log ≤ commits.old.disk.size }
     requires position { place.now.position < geometry.now.log }
     requires to_head { place.now.to_head ≤ geometry.now.log }
+    requires piece { IsReadAhead ahead.old commits.old.disk.moments }
+    requires on_disk { AreOnDisk commits.old }
     ensures fits { IfOk result (λ row. FitsFrom geometry.now place.now seq row) }
     ensures row { IfOk result (λ row. HoldsNow
         (λ now. HasRow geometry.now place.now seq now.bytes row) commits.old.disk.moments) }
+    ensures piece { IsReadAhead ahead.new commits.new.disk.moments }
     ensures read { IfOk result (λ row.
-        AreReadTimes (headers_of place.now.position row) commits.old commits.new) }
+        AreReadOnly (headers_of place.now.position row) true commits.old commits.new) }
+    ensures paid { IfOk result (λ row.
+        Pays geometry.now.log place.now (sectors_taken geometry.now.log place.now.position row)
+        ahead.old ahead.new commits.old commits.new) }
     ensures bad { IfErr result (λ e.
         IsBadRow geometry.now place.now seq commits.old.disk.moments e) }
     ensures err { IfErr result (λ e.
         AreReadOnly 2 (opens_without_fault e) commits.old commits.new) }
 {
-    let head = read_head(commits, geometry, place, seq)?;
+    let head = read_head(commits, ahead, geometry, place, seq)?;
     if let Some(row) = row_at(seq, place.position, &head) {
         return Ok(row);
     }
@@ -112,7 +126,7 @@ fn read_row<D: Disk>(
         to_head: place.to_head - (geometry.log - place.position),
         is_last: place.is_last,
     };
-    let head = read_head(commits, geometry, &after_pad, seq)?;
+    let head = read_head(commits, ahead, geometry, &after_pad, seq)?;
     match row_at(seq, 0, &head) {
         Some(row) => Ok(row),
         None => unreachable!(),
@@ -142,9 +156,10 @@ fn row_at(seq: u64, at: u64, head: &Head) -> Option<Row>
     }
 }
 
-// Reads the header with this seq at a place.
+// Reads the header with this seq at a place. No piece goes past the head, nor past the log's end.
 fn read_head<D: Disk>(
     commits: &mut Commits<D>,
+    ahead: &mut ReadAhead,
     geometry: &Geometry,
     place: &Place,
     seq: u64,
@@ -152,20 +167,27 @@ fn read_head<D: Disk>(
     requires limits { IsTrue (is_within_limits geometry.now) }
     requires inside { byte_of geometry.now.log ≤ commits.old.disk.size }
     requires position { place.now.position < geometry.now.log }
+    requires to_head { place.now.to_head ≤ geometry.now.log }
+    requires piece { IsReadAhead ahead.old commits.old.disk.moments }
+    requires on_disk { AreOnDisk commits.old }
     ensures in_range { IfOk result (λ head.
         IsTrue (is_in_range geometry.now place.now.position head)) }
     ensures fits { IfOk result (λ head. IsTrue (fits geometry.now place.now head)) }
     ensures head { IfOk result (λ head. HoldsNow
         (λ now. IsHeader (log_sectors place.now.position 1 now.bytes) seq
         geometry.now place.now head) commits.old.disk.moments) }
-    ensures read { OnOk result (AreReadTimes 1 commits.old commits.new) }
+    ensures piece { IsReadAhead ahead.new commits.new.disk.moments }
+    ensures read { OnOk result (AreReadOnly 1 true commits.old commits.new) }
+    ensures paid { OnOk result
+        (Pays geometry.now.log place.now 0 ahead.old ahead.new commits.old commits.new) }
     ensures bad { IfErr result (λ e.
         IsBadHeader geometry.now place.now seq commits.old.disk.moments e) }
     ensures err { IfErr result (λ e.
         AreReadOnly 1 (opens_without_fault e) commits.old commits.new) }
 {
     let mut header = [0; SECTOR_BYTES as usize];
-    commits.read(byte_of(place.position), &mut header)?;
+    let end = geometry.log.min(place.position + place.to_head.max(1));
+    ahead.read(commits, place.position, end, &mut header)?;
     match decode(&header, seq, geometry, place) {
         Ok(head) => Ok(head),
         Err(bad) => Err(OpenError::BadRecord {

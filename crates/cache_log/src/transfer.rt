@@ -8,8 +8,10 @@ ghost use Rattle.cache_log.specs.Log.{row_of, AreRowsOf};
 ghost use Rattle.cache_log.specs.Reads.{AreReadOnly, reads_without_fault};
 ghost use Rattle.cache_log.specs.Writing.{IsPadded, FailsToPad, IsWrittenAt, IsNotWrittenAt};
 ghost use Rattle.cache_log.specs.Writing.{RowLiesInside, RowsLieInside};
+ghost use Rattle.cache_log.specs.Pieces.{IsReadAhead};
 
 use crate::error::LogReadError;
+use crate::reading_ahead::ReadAhead;
 use crate::row::Row;
 use commit_slot::{Commits, LOG_START};
 use log_record::encode_pad;
@@ -63,14 +65,17 @@ pub(crate) fn write_pad_before<D: Disk>(
     write_at(commits, head, &header)
 }
 
-// Reads the entries whose records stand at these rows' sectors, but for the first ones.
+// Reads the entries whose records stand at these rows' sectors, but for the first ones, in pieces of
+// up to a mebibyte.
 pub(crate) fn read_entries<D: Disk>(
     alloc: Global,
     commits: &mut Commits<D>,
     rows: &VecDeque<Row>,
     skipped: usize,
+    room: &LogRoom,
 ) -> Result<Vec<Entry>, LogReadError>
-    requires inside { RowsLieInside rows.now.items commits.old.disk }
+    requires inside { RowsLieInside rows.now.items room.now.log }
+    requires fits { byte_of room.now.log ≤ commits.old.disk.size }
     requires on_disk { AreOnDisk commits.old }
     ensures entries { IfOk result (λ list. HoldsNow
         (λ now. list.items ≡ map (entry_of now.bytes) (drop skipped rows.now.items))
@@ -82,24 +87,32 @@ pub(crate) fn read_entries<D: Disk>(
         AreReadOnly (length rows.now.items - skipped) (reads_without_fault e)
         commits.old commits.new) }
 {
+    let mut ahead = ReadAhead::new(alloc, room.used())?;
     let mut entries = Vec::new(alloc);
     for index in skipped..rows.len() {
-        entries.push(read_entry(alloc, commits, rows[index])?)?;
+        let entry = read_entry(alloc, commits, &mut ahead, rows[index], room.sectors())?;
+        entries.push(entry)?;
     }
     Ok(entries)
 }
 
-// Reads the entry whose record stands at a row's sectors.
+// Reads the entry whose record stands at a row's sectors, in a log of `log` sectors.
 fn read_entry<D: Disk>(
     alloc: Global,
     commits: &mut Commits<D>,
+    ahead: &mut ReadAhead,
     row: Row,
+    log: u64,
 ) -> Result<Entry, LogReadError>
-    requires inside { RowLiesInside row commits.old.disk }
+    requires limit { log ≤ max_log }
+    requires inside { RowLiesInside row log }
+    requires fits { byte_of log ≤ commits.old.disk.size }
+    requires piece { IsReadAhead ahead.old commits.old.disk.moments }
     requires on_disk { AreOnDisk commits.old }
     ensures entry { IfOk result (λ entry.
         HoldsNow (λ now. entry ≡ entry_of now.bytes row) commits.old.disk.moments) }
     ensures row { IfOk result (λ entry. row ≡ row_of (seq_of row) (position_of row) entry) }
+    ensures piece { IsReadAhead ahead.new commits.new.disk.moments }
     ensures read { OnOk result (AreReadOnly 1 true commits.old commits.new) }
     ensures err { IfErr result (λ e.
         AreReadOnly 1 (reads_without_fault e) commits.old commits.new) }
@@ -112,7 +125,7 @@ fn read_entry<D: Disk>(
             ..
         } => {
             let mut bytes = vec![in alloc; 0; (SECTOR_BYTES * sectors) as usize]?;
-            commits.read(byte_of(at + 1), bytes.as_mut_slice())?;
+            ahead.read(commits, at + 1, log, bytes.as_mut_slice())?;
             let body = Body::from_bytes(bytes);
             Ok(Entry::Write { lba, body })
         }

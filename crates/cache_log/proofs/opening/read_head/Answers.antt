@@ -1,19 +1,18 @@
-use Rattle.std.proofs.Common.{rules, true, false}
-use Rattle.cache_log.proofs.ReadCounts.{one_read}
+use Rattle.std.proofs.Common.{rules, ◌≡◌, ◌+◌, ◌≤◌, arith}
+use Rattle.std.specs.Prelude.{min}
+use Rattle.cache_log.proofs.PaidLemmas.{paid_header, some_to_head}
 use Rattle.cache_log.proofs.opening.read_head.Goals as goal
 
 pub returns-in_err-read-clause-err : goal.returns-in_err-read-clause-err
 returns-in_err-read-clause-err g c =
-    let e = c.in_err-read.ensures in
-    let one = one_read false c.args.commits.now c.read.new.self e.same e.moments e.costs e.on_disk in
+    let one = c.in_err-read.ensures.only in
     search (one, rules)
 
-pub returns-in-Ok-clause-read : goal.returns-in-Ok-clause-read
-returns-in-Ok-clause-read g c =
+pub returns-in-Ok-clause-paid : goal.returns-in-Ok-clause-paid
+returns-in-Ok-clause-paid g c =
     let e = c.in_ok-read.ensures in
-    record { same = e.same; moments = e.moments; calls = e.costs; on_disk = e.on_disk }
-
-pub returns-in-Err-clause-err : goal.returns-in-Err-clause-err
-returns-in-Err-clause-err g c =
-    let e = c.in_ok-read.ensures in
-    one_read true c.args.commits.now c.read.new.self e.same e.moments e.costs e.on_disk
+    let some : 1 ≤ c.args.place.now.to_head = some_to_head c.args.geometry.now c.args.place.now _ c.in-Ok.ensures.ok.fits in
+    let end : c.min-end.result ≡ min c.args.geometry.now.log (c.args.place.now.position + c.args.place.now.to_head) =
+    omega (arith, some, c.min-end.ensures, c.max.ensures) in
+    paid_header c.args.geometry.now.log c.min-end.result c.args.place.now c.args.ahead.now c.read.new.self c.args.commits.now
+    c.read.new.commits some end c.requires.on_disk e.ahead e.spared e.only

@@ -1,16 +1,18 @@
-use Rattle.std.proofs.Common.{rules, sym, subst, arith}
-use Rattle.std.specs.Prelude.{Result, Ok, Err, IfErr, IsTrue}
+use Rattle.std.proofs.Common.{rules, ℕ, sym, subst, arith}
+use Rattle.std.specs.Prelude.{Result, Ok, Err, IfErr, IsTrue, true}
 use Rattle.lsvd_device.specs.Device.{HoldsNow}
 use Rattle.log_record.specs.Grammar.{is_in_range, fits, IsHeader}
 use Rattle.commit_slot.specs.Commits.{CommitsState}
-use Rattle.cache_log.specs.Rows.{log_sectors}
+use Rattle.cache_log.specs.Rows.{log_sectors, sectors_taken}
 use Rattle.cache_log.specs.Reads.{AreReadOnly, opens_without_fault}
 use Rattle.cache_log.specs.Opening.{after_pad}
-use Rattle.cache_log.specs.Headers.{IsBadHeader, IsPad, AreReadTimes}
+use Rattle.cache_log.specs.Headers.{IsBadHeader, IsPad}
 use Rattle.cache_log.specs.declared.error.OpenError.{OpenError}
-use Rattle.cache_log.proofs.ReadCounts.{only_of_times, only_more, times_then, open_error_then, one_header, two_headers}
+use Rattle.cache_log.proofs.ReadCounts.{only_more, only_then, open_error_then, one_header, two_headers}
 use Rattle.cache_log.proofs.RowLemmas.{bad_first, bad_after_pad, row_here, row_after_pad, fits_here, fits_round}
 use Rattle.cache_log.proofs.RowLemmas.{pad_before_head, pad_ahead}
+use Rattle.cache_log.proofs.PaidLemmas.{pays_further, pays_both}
+use Rattle.cache_log.proofs.Places.{taken_round}
 use Rattle.cache_log.proofs.opening.read_row.Goals as goal
 
 -- ---- the first header was refused, or is that of a row
@@ -50,7 +52,12 @@ returns-in-Some-clause-row g c =
 pub returns-in-Some-clause-read : goal.returns-in-Some-clause-read
 returns-in-Some-clause-read g c =
     let one = one_header c.args.place.now.position c.in-Some.row c.in-Some.ensures.some.1 in
-    subst (λ n. AreReadTimes n c.args.commits.now c.read_head.new.commits) (sym one) c.in_ok-head.ensures.read
+    subst (λ n. AreReadOnly n true c.args.commits.now c.read_head.new.commits) (sym one) c.in_ok-head.ensures.read
+
+pub returns-in-Some-clause-paid : goal.returns-in-Some-clause-paid
+returns-in-Some-clause-paid g c = pays_further c.args.geometry.now.log 0
+    (sectors_taken c.args.geometry.now.log c.args.place.now.position c.in-Some.row) c.args.place.now c.args.ahead.now
+    c.read_head.new.ahead c.args.commits.now c.read_head.new.commits (omega arith) c.in_ok-head.ensures.paid
 
 -- ---- it is that of a pad
 
@@ -77,7 +84,7 @@ returns-in_err-head-2-clause-err g c =
     let second : IfErr c.from_residual-in_err-head-2.result (λ e. AreReadOnly 1 (opens_without_fault e) c.read_head.new.commits
     c.read_head-2.new.commits) = search rules in
     open_error_then _ 1 1 2 c.args.commits.now c.read_head.new.commits c.read_head-2.new.commits
-    (only_of_times 1 1 _ _ c.in_ok-head.ensures.read (omega arith)) second (omega arith)
+    c.in_ok-head.ensures.read second (omega arith)
 
 pub returns-clause-row : goal.returns-clause-row
 returns-clause-row g c =
@@ -111,7 +118,22 @@ returns-clause-read g c =
     let ahead = pad_ahead c.args.geometry.now c.args.place.now c.in-Some-row_at.row c.requires.to_head part there.1
     (subst (λ h. IsTrue (fits c.args.geometry.now (after_pad c.args.geometry.now.log c.args.place.now) h)) (sym there.2)
     c.in_ok-head-2.ensures.fits) in
-    let both = times_then 1 1 c.args.commits.now c.read_head.new.commits c.read_head-2.new.commits c.in_ok-head.ensures.read
-    c.in_ok-head-2.ensures.read in
-    subst (λ n. AreReadTimes n c.args.commits.now c.read_head-2.new.commits)
+    let both = only_then 1 1 2 true c.args.commits.now c.read_head.new.commits c.read_head-2.new.commits c.in_ok-head.ensures.read
+    c.in_ok-head-2.ensures.read (omega arith) in
+    subst (λ n. AreReadOnly n true c.args.commits.now c.read_head-2.new.commits)
     (sym (two_headers c.args.place.now.position c.in-Some-row_at.row ahead)) both
+
+pub returns-clause-paid : goal.returns-clause-paid
+returns-clause-paid g c =
+    let log : ℕ = c.args.geometry.now.log in
+    let there = c.in-Some-row_at.ensures.some in
+    let pad : IsPad c.in_ok-head.head = search rules in
+    let part = pad_before_head c.args.geometry.now c.args.place.now c.in_ok-head.head pad c.in_ok-head.ensures.in_range
+    c.in_ok-head.ensures.fits in
+    let less = pad_ahead c.args.geometry.now c.args.place.now c.in-Some-row_at.row c.requires.to_head part there.1
+    (subst (λ h. IsTrue (fits c.args.geometry.now (after_pad log c.args.place.now) h)) (sym there.2)
+    c.in_ok-head-2.ensures.fits) in
+    let takes = taken_round log c.args.place.now.position c.in-Some-row_at.row less in
+    pays_both log (sectors_taken log c.args.place.now.position c.in-Some-row_at.row) c.args.place.now c.args.ahead.now
+    c.read_head.new.ahead c.read_head-2.new.ahead c.args.commits.now c.read_head.new.commits c.read_head-2.new.commits part
+    (omega (arith, takes)) c.in_ok-head.ensures.paid c.in_ok-head-2.ensures.paid

@@ -1,6 +1,6 @@
 use Rattle.std.proofs.Common.{rules, ◌≡◌, ◌<◌, ◌^◌, ◌∷◌, ◌++◌, [], ℕ, List, true, sym, ◌∙◌, ap, length, ◌≤◌, ◌+◌, ◌-◌, ◌*◌, subst}
 use Rattle.std.proofs.Common.{arith}
-use Rattle.std.specs.Prelude.{IfErr}
+use Rattle.std.specs.Prelude.{IfErr, min}
 use Rattle.lsvd_device.specs.Medium.{Medium}
 use Rattle.lsvd_device.specs.Device.{HoldsNow}
 use Rattle.commit_body.specs.declared.body.CommitBody.{CommitBody}
@@ -8,12 +8,14 @@ use Rattle.commit_body.specs.Body.{MayStand}
 use Rattle.lsvd_base.specs.declared.geometry.Geometry.{Geometry}
 use Rattle.cache_log.specs.declared.row.Row.{Row}
 use Rattle.cache_log.specs.Rows.{sectors_taken, next}
-use Rattle.cache_log.specs.Reads.{AreReadOnly, opens_without_fault, headers_of, headers_of_rows}
-use Rattle.cache_log.specs.Opening.{entry_count, AreRowsOfLog, AreRecordsInRange, IsBadLog}
-use Rattle.cache_log.specs.Headers.{FitsFrom, HasRow, IsBadRow, AreReadTimes}
-use Rattle.cache_log.proofs.ReadCounts.{read_none, times_then, only_of_times, open_error_then, header_most, headers_most}
+use Rattle.cache_log.specs.Reads.{AreReadOnly, opens_without_fault, headers_of, headers_of_rows, pieces_in}
+use Rattle.cache_log.specs.Opening.{entry_count, sectors_between, AreRowsOfLog, AreRecordsInRange, IsBadLog}
+use Rattle.cache_log.specs.Headers.{FitsFrom, HasRow, IsBadRow}
+use Rattle.cache_log.proofs.ReadCounts.{read_none, only_then, open_error_then, header_most, headers_most}
 use Rattle.cache_log.proofs.ReadCounts.{headers_more}
 use Rattle.cache_log.proofs.ReadRowsLemmas.{first_far, first_has_now, next_far, next_has_now, last_far, last_has_now, bad_on_err}
+use Rattle.cache_log.proofs.AheadLemmas.{none_ahead}
+use Rattle.cache_log.proofs.PaidRows.{first_paid, next_paid, last_paid}
 use Rattle.cache_log.proofs.RowLemmas.{place_of}
 use Rattle.cache_log.proofs.opening.read_rows.Goals as goal
 
@@ -26,8 +28,14 @@ loop-seq-init g c =
     let moments : List Medium = c.args.commits.now.disk.moments in
     let far = first_far geometry body may in
     let has = first_has_now geometry body moments may in
+    let room : length c.in_ok-ahead.ahead.buffer.items ≡ 512 * min c.sectors_between-to_head.result 2048 = search rules in
     record {
-      times = rw (c.new-rows.ensures.items) (read_none c.args.commits.now c.requires.on_disk);
+      only = read_none (headers_of_rows geometry.log body.tail.position c.new-rows.result.items) c.args.commits.now
+          c.requires.on_disk;
+      piece = none_ahead c.in_ok-ahead.ahead moments (search rules);
+      paid = rw (c.sectors_between-to_head.ensures.sectors) (first_paid geometry body c.in_ok-ahead.ahead c.args.commits.now
+          c.requires.on_disk may (search rules) (subst (λ n. length c.in_ok-ahead.ahead.buffer.items ≡ 512 * min n 2048)
+          c.sectors_between-to_head.ensures.sectors room));
       far = rw (c.new-rows.ensures.items, c.sectors_between-to_head.ensures.sectors) far;
       has = rw (c.new-rows.ensures.items, c.sectors_between-to_head.ensures.sectors) has;
     }
@@ -39,20 +47,20 @@ returns-in_err-row-clause-bad g c =
     let rows : List Row = c.loop-seq.rows.items in
     let seq : ℕ = c.loop-seq.seq in
     let moments : List Medium = c.args.commits.now.disk.moments in
-    let bad : IfErr c.from_residual.result
+    let bad : IfErr c.from_residual-in_err-row.result
     (λ e. IsBadRow geometry (place_of body.head.seq c.loop-seq.position c.loop-seq.to_head seq) seq
     c.loop-seq.commits.disk.moments e) = search rules in
-    let bad_at_first : IfErr c.from_residual.result
+    let bad_at_first : IfErr c.from_residual-in_err-row.result
     (λ e. IsBadRow geometry (place_of body.head.seq c.loop-seq.position c.loop-seq.to_head seq) seq moments e) =
-    subst (λ m. IfErr c.from_residual.result
+    subst (λ m. IfErr c.from_residual-in_err-row.result
     (λ e. IsBadRow geometry (place_of body.head.seq c.loop-seq.position c.loop-seq.to_head seq) seq m e))
-    c.loop-seq.invariant.times.moments bad in
+    c.loop-seq.invariant.only.moments bad in
     let small : seq < 2 ^ 64 = omega arith in
-    let is = bad_on_err c.from_residual.result geometry body rows c.loop-seq.position c.loop-seq.to_head seq
+    let is = bad_on_err c.from_residual-in_err-row.result geometry body rows c.loop-seq.position c.loop-seq.to_head seq
     c.args.commits.now.disk.size moments c.requires.limits c.requires.inside c.requires.on_disk.is_disk.media
     c.loop-seq-test.true small
     c.loop-seq.invariant.far c.loop-seq.invariant.has bad_at_first in
-    subst (λ b. IfErr c.from_residual.result (λ e. IsBadLog geometry b moments e)) c.body-body.ensures.body is
+    subst (λ b. IfErr c.from_residual-in_err-row.result (λ e. IsBadLog geometry b moments e)) c.body-body.ensures.body is
 
 -- at most two headers for each row so far, and two for one more, are at most two for each entry
 within : (count rows tail head seq : ℕ) → count ≤ 2 * rows → tail + rows ≡ seq → seq < head → count + 2 ≤ 2 * (head - tail)
@@ -64,14 +72,14 @@ returns-in_err-row-clause-err g c =
     let log : ℕ = c.args.geometry.now.log in
     let rows : List Row = c.loop-seq.rows.items in
     let count : ℕ = headers_of_rows log body.tail.position rows in
-    let second : IfErr c.from_residual.result (λ e. AreReadOnly 2 (opens_without_fault e) c.loop-seq.commits
+    let second : IfErr c.from_residual-in_err-row.result (λ e. AreReadOnly 2 (opens_without_fault e) c.loop-seq.commits
     c.read_row.new.commits) = search rules in
     let small = within count (length rows) body.tail.seq body.head.seq c.loop-seq.seq (headers_most log body.tail.position rows)
     c.loop-seq.invariant.far.next_seq c.loop-seq-test.true in
-    let all = open_error_then c.from_residual.result count 2 (2 * entry_count body) c.args.commits.now c.loop-seq.commits
-    c.read_row.new.commits (only_of_times count count _ _ c.loop-seq.invariant.times (omega arith)) second small in
-    subst (λ b. IfErr c.from_residual.result (λ e. AreReadOnly (2 * entry_count b) (opens_without_fault e) c.args.commits.now
-    c.read_row.new.commits)) c.body-body.ensures.body all
+    let all = open_error_then c.from_residual-in_err-row.result count 2 (2 * entry_count body) c.args.commits.now
+    c.loop-seq.commits c.read_row.new.commits c.loop-seq.invariant.only second small in
+    subst (λ b. IfErr c.from_residual-in_err-row.result (λ e. AreReadOnly (2 * entry_count b) (opens_without_fault e)
+    c.args.commits.now c.read_row.new.commits)) c.body-body.ensures.body all
 
 pub returns-in_err-push_back-clause-err : goal.returns-in_err-push_back-clause-err
 returns-in_err-push_back-clause-err g c =
@@ -81,14 +89,13 @@ returns-in_err-push_back-clause-err g c =
     let count : ℕ = headers_of_rows log body.tail.position rows in
     let small = within count (length rows) body.tail.seq body.head.seq c.loop-seq.seq (headers_most log body.tail.position rows)
     c.loop-seq.invariant.far.next_seq c.loop-seq-test.true in
-    let one : AreReadTimes (headers_of c.loop-seq.position c.in_ok-row.row) c.loop-seq.commits c.read_row.new.commits =
+    let one : AreReadOnly (headers_of c.loop-seq.position c.in_ok-row.row) true c.loop-seq.commits c.read_row.new.commits =
     c.in_ok-row.ensures.read in
     let few = header_most c.loop-seq.position c.in_ok-row.row in
-    let both = times_then count (headers_of c.loop-seq.position c.in_ok-row.row) c.args.commits.now c.loop-seq.commits
-    c.read_row.new.commits c.loop-seq.invariant.times one in
     let all : AreReadOnly (2 * entry_count c.args.commits.now.body) true c.args.commits.now c.read_row.new.commits =
     subst (λ b. AreReadOnly (2 * entry_count b) true c.args.commits.now c.read_row.new.commits) c.body-body.ensures.body
-    (only_of_times (count + headers_of c.loop-seq.position c.in_ok-row.row) _ _ _ both (omega (arith, few, small))) in
+    (only_then count (headers_of c.loop-seq.position c.in_ok-row.row) _ true c.args.commits.now c.loop-seq.commits
+    c.read_row.new.commits c.loop-seq.invariant.only one (omega (arith, few, small))) in
     search (all, rules)
 
 pub loop-seq-preserved : goal.loop-seq-preserved
@@ -108,13 +115,13 @@ loop-seq-preserved g c =
     c.loop-seq.commits.disk.moments = search rules in
     let has_at_first : HoldsNow (λ now. HasRow geometry (place_of body.head.seq position to_head seq) seq now.bytes row) moments =
     subst (λ m. HoldsNow (λ now. HasRow geometry (place_of body.head.seq position to_head seq) seq now.bytes row) m)
-    c.loop-seq.invariant.times.moments has in
+    c.loop-seq.invariant.only.moments has in
     let pushed : c.push_back.new.self.items ≡ rows ++ row ∷ [] = search rules in
     let took : c.sectors_taken-to_head.result ≡ sectors_taken geometry.log position row = search rules in
     let to : c.next-position.result ≡ next geometry.log row = search rules in
-    let one : AreReadTimes (headers_of position row) c.loop-seq.commits c.read_row.new.commits = c.in_ok-row.ensures.read in
-    let both = times_then (headers_of_rows geometry.log body.tail.position rows) (headers_of position row) c.args.commits.now
-    c.loop-seq.commits c.read_row.new.commits c.loop-seq.invariant.times one in
+    let one : AreReadOnly (headers_of position row) true c.loop-seq.commits c.read_row.new.commits = c.in_ok-row.ensures.read in
+    let both = only_then (headers_of_rows geometry.log body.tail.position rows) (headers_of position row) _ true
+    c.args.commits.now c.loop-seq.commits c.read_row.new.commits c.loop-seq.invariant.only one (omega arith) in
     let counted : headers_of_rows geometry.log body.tail.position rows + headers_of position row ≡ headers_of_rows geometry.log
     body.tail.position (rows ++ row ∷ []) =
     ap (λ p. headers_of_rows geometry.log body.tail.position rows + headers_of p row) (sym c.loop-seq.invariant.far.at_end)
@@ -124,7 +131,11 @@ loop-seq-preserved g c =
     c.requires.inside c.requires.on_disk.is_disk.media c.loop-seq-test.true c.loop-seq.invariant.far fit has_at_first
     c.loop-seq.invariant.has in
     record {
-      times = rw pushed (subst (λ n. AreReadTimes n c.args.commits.now c.read_row.new.commits) counted both);
+      only = rw pushed (subst (λ n. AreReadOnly n true c.args.commits.now c.read_row.new.commits) counted both);
+      piece = c.in_ok-row.ensures.piece;
+      paid = rw took (next_paid geometry body rows position to_head seq row c.loop-seq.ahead c.read_row.new.ahead
+          c.args.commits.now c.loop-seq.commits c.read_row.new.commits may c.loop-seq.invariant.far fit.within
+          c.loop-seq.invariant.paid c.in_ok-row.ensures.paid);
       far = rw (pushed, took, to) far;
       has = rw (pushed, took, to) so_far;
     }
@@ -156,5 +167,12 @@ returns-clause-records g c =
 
 pub returns-clause-read : goal.returns-clause-read
 returns-clause-read g c =
-    subst (λ (b : CommitBody). AreReadTimes (headers_of_rows c.args.geometry.now.log b.tail.position c.loop-seq.rows.items)
-    c.args.commits.now c.loop-seq.commits) c.body-body.ensures.body c.loop-seq.invariant.times
+    subst (λ (b : CommitBody). AreReadOnly (headers_of_rows c.args.geometry.now.log b.tail.position c.loop-seq.rows.items) true
+    c.args.commits.now c.loop-seq.commits) c.body-body.ensures.body c.loop-seq.invariant.only
+
+pub returns-clause-pieces : goal.returns-clause-pieces
+returns-clause-pieces g c =
+    subst (λ (b : CommitBody). AreReadOnly (pieces_in (sectors_between c.args.geometry.now.log b)) true c.args.commits.now
+    c.loop-seq.commits) c.body-body.ensures.body
+    (last_paid c.args.geometry.now c.body-body.result c.loop-seq.to_head c.loop-seq.ahead c.args.commits.now c.loop-seq.commits
+    c.loop-seq.invariant.paid)

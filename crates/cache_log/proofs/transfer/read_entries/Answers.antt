@@ -6,15 +6,18 @@ use Rattle.commit_slot.specs.Commits.{CommitsState}
 use Rattle.cache_log.specs.Rows.{seq_of, position_of, entry_of}
 use Rattle.cache_log.specs.Log.{row_of}
 use Rattle.cache_log.specs.Reads.{AreReadOnly, reads_without_fault}
+use Rattle.cache_log.specs.Writing.{RowLiesInside}
 use Rattle.cache_log.specs.declared.row.Row.{Row}
-use Rattle.cache_log.proofs.ReadCounts.{read_none, only_of_times, only_then, only_more, read_error_then}
+use Rattle.cache_log.proofs.ReadCounts.{read_none, only_more, only_then, read_error_then}
 use Rattle.cache_log.proofs.ReadLemmas.{none_so_far, one_so_far, all_so_far, none_of_so_far, one_of_so_far, all_of_so_far}
-use Rattle.cache_log.proofs.ReadLemmas.{row_lies, lies_in_same, SoFar, AreOfSoFar}
+use Rattle.cache_log.proofs.AheadLemmas.{none_ahead}
+use Rattle.cache_log.proofs.ReadLemmas.{row_lies, SoFar, AreOfSoFar}
 use Rattle.cache_log.proofs.transfer.read_entries.Goals as goal
 
 pub loop-index-init : goal.loop-index-init
 loop-index-init g c = record {
-  only = only_of_times 0 _ _ _ (read_none c.args.commits.now c.requires.on_disk) (omega arith);
+  only = read_none _ c.args.commits.now c.requires.on_disk;
+  piece = none_ahead c.in_ok-ahead.ahead c.args.commits.now.disk.moments (search rules);
   within = omega arith;
   so_far = none_so_far c.args.rows.now.items c.args.skipped c.new-entries.result.items c.args.commits.now.disk.moments
       c.new-entries.ensures.items;
@@ -24,21 +27,20 @@ loop-index-init g c = record {
 pub read_entry-requires-clause-inside : goal.read_entry-requires-clause-inside
 read_entry-requires-clause-inside g c =
     let rows : List Row = c.args.rows.now.items in
-    let old : CommitsState = c.args.commits.now in
     let inside : c.loop-index.index < length rows = search rules in
     let is : c.index.result.now ≡ get_or rows c.loop-index.index c.index.result.now = search rules in
-    lies_in_same c.index.result.now old.disk c.loop-index.commits.disk c.loop-index.invariant.only.reads.calls.size
-    (row_lies rows c.loop-index.index c.index.result.now old.disk inside is c.requires.inside)
+    subst (RowLiesInside c.index.result.now) (sym c.sectors.ensures)
+    (row_lies rows c.loop-index.index c.index.result.now c.args.room.now.log inside is c.requires.inside)
 
-pub returns-in_err-read_entry-clause-err : goal.returns-in_err-read_entry-clause-err
-returns-in_err-read_entry-clause-err g c =
-    let second : IfErr c.from_residual.result (λ e. AreReadOnly 1 (reads_without_fault e) c.loop-index.commits
+pub returns-in_err-entry-clause-err : goal.returns-in_err-entry-clause-err
+returns-in_err-entry-clause-err g c =
+    let second : IfErr c.from_residual-in_err-entry.result (λ e. AreReadOnly 1 (reads_without_fault e) c.loop-index.commits
     c.read_entry.new.commits) = search rules in
     let inside : c.loop-index.index < length c.args.rows.now.items = search rules in
     let from = c.loop-index.auto.index in
-    read_error_then c.from_residual.result (c.loop-index.index - c.args.skipped) 1 (length c.args.rows.now.items - c.args.skipped)
-    c.args.commits.now c.loop-index.commits c.read_entry.new.commits c.loop-index.invariant.only second
-    (omega (arith, inside, from))
+    read_error_then c.from_residual-in_err-entry.result (c.loop-index.index - c.args.skipped) 1
+    (length c.args.rows.now.items - c.args.skipped) c.args.commits.now c.loop-index.commits c.read_entry.new.commits
+    c.loop-index.invariant.only second (omega (arith, inside, from))
 
 pub returns-in_err-push-clause-err : goal.returns-in_err-push-clause-err
 returns-in_err-push-clause-err g c =
@@ -55,7 +57,7 @@ loop-index-preserved g c =
     let rows : List Row = c.args.rows.now.items in
     let old : CommitsState = c.args.commits.now in
     let row : Row = c.index.result.now in
-    let entry : Entry = c.in_ok-read_entry.field-0 in
+    let entry : Entry = c.in_ok-entry.entry in
     let inside : c.loop-index.index < length rows = search rules in
     let from = c.loop-index.auto.index in
     let is : row ≡ get_or rows c.loop-index.index row = search rules in
@@ -70,6 +72,7 @@ loop-index-preserved g c =
     record {
       only = only_then (c.loop-index.index - c.args.skipped) 1 (c.loop-index.index + 1 - c.args.skipped) true old
           c.loop-index.commits c.read_entry.new.commits c.loop-index.invariant.only one (omega (arith, from));
+      piece = search rules;
       within = omega (arith, inside, from);
       so_far = subst (λ list. SoFar rows c.args.skipped (c.loop-index.index + 1) list old.disk.moments) (sym pushed) more;
       rows = subst (AreOfSoFar rows c.args.skipped (c.loop-index.index + 1)) (sym pushed)

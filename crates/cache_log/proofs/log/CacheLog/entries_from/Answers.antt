@@ -15,7 +15,7 @@ use Rattle.cache_log.specs.Rows.{position_of, record_size, entry_of}
 use Rattle.cache_log.specs.Reads.{AreReadOnly, reads_without_fault}
 use Rattle.cache_log.specs.Log.{LogState, AreRowsOf, HasSameEntries, IsReadOnly, entries_in}
 use Rattle.cache_log.specs.Invariant.{IsLog}
-use Rattle.cache_log.proofs.ReadLemmas.{all_inside, log_lies, entries_on_ok}
+use Rattle.cache_log.proofs.ReadLemmas.{all_inside, entries_on_ok}
 use Rattle.cache_log.proofs.WriteLemmas.{read_log}
 use Rattle.cache_log.proofs.CommittedLemmas.{view_of}
 use Rattle.cache_log.proofs.log.CacheLog.entries_from.Goals as goal
@@ -41,9 +41,7 @@ pub read_entries-requires-clause-inside : goal.read_entries-requires-clause-insi
 read_entries-requires-clause-inside g c =
     let items : List Row = c.self.inside.rows.items in
     let P : List Row → Type 0 = AllByRecursion (λ row. position_of row + record_size row ≤ c.self.inside.room.log) in
-    let inside : P items = subst P (take-append-drop c.self.inside.dropped items) (all_inside _ _ _ _ _ c.self.invariant.1) in
-    log_lies items c.self.inside.room.log c.self.inside.commits.disk c.self.invariant.1.is.room.limit
-    c.self.invariant.1.is.fits inside
+    subst P (take-append-drop c.self.inside.dropped items) (all_inside _ _ _ _ _ c.self.invariant.1)
 
 -- the rows that are not skipped are those from the seq on
 left_from : (count seq d : ℕ) (items : List Row) (log : LogState) (view : LogState) → view.rows ≡ drop d items → view ≡ log

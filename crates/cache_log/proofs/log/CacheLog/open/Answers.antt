@@ -51,3 +51,4 @@ returns-in-Ok-clause-ok g c =
     is_opened geometry rows old c.read_rows.new.commits c.at.result body.tail (take 0 rows) (drop 0 rows) _
     (ap (λ (b : CommitBody). b.tail) is) (take_none rows) (drop_none rows) place may fits
     c.log-sectors.ensures.on_disk.is_disk.media c.in-Ok.ensures.rows c.in-Ok.ensures.records c.in-Ok.ensures.read
+    c.in-Ok.ensures.pieces
