@@ -58,7 +58,7 @@ both_true false b is = let bad : ⊥ = cc in absurd bad
 -- ---- owners
 
 -- an own object that is named
-own_by : (number : ℕ) (found : Option Owner) → is_own number found ≡ true
+pub own_by : (number : ℕ) (found : Option Owner) → is_own number found ≡ true
     → (owner : Owner) × (found ≡ Some owner) × (owner.number ≡ number)
 own_by number None is = let bad : ⊥ = cc in absurd bad
 own_by number (Some owner) is =

@@ -119,7 +119,7 @@ flush_keeps state h =
     (commit_keeps state.geometry.log (frontier_end state) (history_length state) state.cache (frontier_ends state h)
     (log_of state h))
 
-either_state : (P : PlainState → Type 0) (b : Bool) (x y : PlainState) → P x → P y → P (cond b x y)
+pub either_state : (P : PlainState → Type 0) (b : Bool) (x y : PlainState) → P x → P y → P (cond b x y)
 either_state P true x y is other = is
 either_state P false x y is other = other
 

@@ -32,7 +32,7 @@ part_of_first n m xs h =
     sym (drop-take n (m - n) xs) ∙ ap (λ k. drop n (take k xs)) sum
 
 -- the volume cut off after the object to which its entries are folded
-cut_of_fold : (state : PlainState) (number last count : ℕ) (checkpoint : PlainCheckpoint) (gone : List ℕ) (cache : PlainCache)
+pub cut_of_fold : (state : PlainState) (number last count : ℕ) (checkpoint : PlainCheckpoint) (gone : List ℕ) (cache : PlainCache)
     → MayFold state number → number ≤ last → end_at (stream_in state) number ≤ count
     → record (cut_to_count last count (folded_to number state)) {
       checkpoint = checkpoint;

@@ -12,3 +12,9 @@ pub mod FoldReplyLemmas
 pub mod FoldEventLemmas
 pub mod FoldMountLemmas
 pub mod FoldVolumeLemmas
+pub mod FoundLemmas
+pub mod FoundStreamLemmas
+pub mod AgainLemmas
+pub mod OpeningLemmas
+pub mod SealedLemmas
+pub mod MarkedLemmas

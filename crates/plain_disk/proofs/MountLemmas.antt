@@ -1,12 +1,12 @@
 -- A mount of the plain volume, with its cache or without it, gives a plain volume.
-use Rattle.std.proofs.Common.{arith, ℕ, ◌+◌, ◌-◌, ◌<◌, ◌≤◌, ◌≡◌, Bool, true, not, ◌&&◌, None, List, length, take, drop, max}
-use Rattle.std.proofs.Common.{length-drop}
-use Rattle.std.proofs.Common.{sym, ◌∙◌, ap, subst₂}
+use Rattle.std.proofs.Common.{arith, ℕ, ◌+◌, ◌-◌, ◌^◌, ◌<◌, ◌≤◌, ◌≡◌, Bool, true, not, ◌&&◌, None, List, length, take, drop, max}
+use Rattle.std.proofs.Common.{length-drop, refl, sym, ◌∙◌, ap, subst₂}
 use Rattle.std.proofs.lemmas.List.{length-take, take-take}
 use Rattle.std.proofs.lemmas.List.Elements.{All-nil, All-take, All-filter}
 use Rattle.std.proofs.lemmas.List.Sums.{sum_by-take-le}
 use Rattle.std.specs.Prelude.{IsTrue}
 use Rattle.lsvd_base.specs.declared.entry.Entry.{Entry}
+use Rattle.lsvd_base.specs.Limits.{is_within_limits}
 use Rattle.lsvd_base.specs.Range.{is_in_range}
 use Rattle.object_stream.specs.Landed.{Numbers}
 use Rattle.object_stream.specs.Stream.{end_after, end_at, last_number}
@@ -18,10 +18,12 @@ use Rattle.plain_disk.specs.Cache.{PlainCache, cache_with, kept_commit}
 use Rattle.plain_disk.specs.State.{PlainState, PlainCheckpoint, stream_in, history_length, frontier_end}
 use Rattle.plain_disk.specs.Checkpoints.{landed_checkpoint}
 use Rattle.plain_disk.specs.Removals.{absent_of}
-use Rattle.plain_disk.specs.Stops.{recovered_number, recovered_end, kept_count, cut_to_count, mounted_kept, mounted_lost}
-use Rattle.plain_disk.specs.Valid.{IsUnneeded, IsPlainCheckpoint, IsLaterCommit, IsPlainLog, IsPlainVolume, MayLand}
-use Rattle.plain_disk.specs.Valid.{MountsKeepPlainVolume, MountsCommitEntries}
+use Rattle.plain_disk.specs.Stops.{recovered_number, recovered_end, kept_count, cut_to_count, mounted_from, mounted_kept}
+use Rattle.plain_disk.specs.Stops.{mounted_lost, mounted_on}
+use Rattle.plain_disk.specs.Valid.{IsUnneeded, IsPlainCheckpoint, IsCommitWithin, IsLaterCommit, IsPlainLog, IsPlainVolume}
+use Rattle.plain_disk.specs.Valid.{MayLand, MountsKeepPlainVolume, MountsCommitEntries}
 use Rattle.plain_disk.proofs.EndLemmas.{ends_from}
+use Rattle.plain_disk.proofs.EventLemmas.{log_has_sectors}
 use Rattle.plain_disk.proofs.CommitLemmas.{past_count, past_used, left_used}
 use Rattle.plain_disk.proofs.FoldLemmas.{owners_of_cut}
 use Rattle.plain_disk.proofs.CheckpointLemmas.{same_checkpoint, landed_is}
@@ -32,8 +34,9 @@ use Rattle.plain_disk.proofs.StopLemmas.{recovers_within}
 
 -- of a log that a commit of it gives, the records from a seq on are left
 mounted_log_is : (end seq count : ℕ) (log : PlainLog) (found : PlainCommit) → end ≤ seq → IsPlainLog end count log
-    → IsLaterCommit log.size end count log.last found → IsPlainLog seq (max seq found.head.seq) (mounted_log found seq log)
-mounted_log_is end seq count log found from h later =
+    → IsCommitWithin log.size end count found → log.last.tail.seq ≤ found.tail.seq
+    → IsPlainLog seq (max seq found.head.seq) (mounted_log found seq log)
+mounted_log_is end seq count log found from h within after_last =
     let size : PlainRecord → ℕ = λ r. r.pad + r.sectors in
     let older = found.tail.seq - log.last.tail.seq in
     let kept = found.head.seq - found.tail.seq in
@@ -50,10 +53,9 @@ mounted_log_is end seq count log found from h later =
     let held_long = length-take kept (records_from log found.tail.seq) in
     let rest_long = length-drop (seq - found.tail.seq) held in
     let same = past_count made.tail.position rest in
-    let order = later.within.order in
-    let tail = later.within.tail in
-    let head = later.within.head in
-    let after_last = later.tail in
+    let order = within.order in
+    let tail = within.tail in
+    let head = within.head in
     let counted = h.counted in
     let count_held : length held ≡ kept = omega arith in
     let next : found.tail.seq + length held ≡ found.head.seq = omega arith in
@@ -61,7 +63,7 @@ mounted_log_is end seq count log found from h later =
       counted = omega (arith, same, rest_long, count_held);
       room = record {
         limit = h.room.limit;
-        head = later.within.place;
+        head = within.place;
         used = omega (
           arith,
           past_used made.tail.position rest,
@@ -72,7 +74,7 @@ mounted_log_is end seq count log found from h later =
           h.room.used,
         );
       };
-      last = record { order = omega arith; tail = omega arith; head = omega (arith, next); place = later.within.place };
+      last = record { order = omega arith; tail = omega arith; head = omega (arith, next); place = within.place };
       unfinished = tt;
     }
 
@@ -121,7 +123,7 @@ cut_is state number count checkpoint gone cache h from sealed ends within newest
     }
 
 -- the newest checkpoint that has landed is acknowledged then, and needs nothing that is gone
-newest_is_found : (state : PlainState) (landed : Numbers) → IsPlainVolume state
+pub newest_is_found : (state : PlainState) (landed : Numbers) → IsPlainVolume state
     → IsPlainCheckpoint (stream_in state) (recovered_number landed state) (absent_of landed state.given_out)
     (landed_checkpoint landed state)
 newest_is_found state landed h =
@@ -135,13 +137,14 @@ newest_is_found state landed h =
           is.unneeded;
     }
 
-pub kept_is : (state : PlainState) (landed : Numbers) (kept : List Bool) → IsPlainVolume state → MayLand state landed
-    → IsPlainVolume (mounted_kept landed kept state)
-kept_is state landed kept h may =
-    let found : PlainCommit = kept_commit kept state.cache in
-    let later = kept_is_later (frontier_end state) (history_length state) kept state.cache h.log in
+-- whichever commit is found whose tail is not before the last one's
+pub from_is : (state : PlainState) (landed : Numbers) (found : PlainCommit) → IsPlainVolume state → MayLand state landed
+    → IsCommitWithin state.cache.log.size (frontier_end state) (history_length state) found
+    → state.cache.log.last.tail.seq ≤ found.tail.seq
+    → IsPlainVolume (mounted_from landed found state)
+from_is state landed found h may place tail =
     let within = recovers_within state landed h in
-    let head = later.within.head in
+    let head = place.head in
     let frontier = recovers_frontier state landed h may in
     cut_is state (recovered_number landed state) (kept_count landed found state) (landed_checkpoint landed state)
     (absent_of landed state.given_out)
@@ -149,7 +152,22 @@ kept_is state landed kept h may =
     (recovers_sealed state landed h)
     (omega arith) (omega arith) (newest_is_found state landed h) h.size
     (mounted_log_is (frontier_end state) (recovered_end landed state) (history_length state) state.cache.log found
-    (recovers_end state landed h may) h.log later)
+    (recovers_end state landed h may) h.log place tail)
+
+pub kept_is : (state : PlainState) (landed : Numbers) (kept : List Bool) → IsPlainVolume state → MayLand state landed
+    → IsPlainVolume (mounted_kept landed kept state)
+kept_is state landed kept h may =
+    let later = kept_is_later (frontier_end state) (history_length state) kept state.cache h.log in
+    from_is state landed (kept_commit kept state.cache) h may later.within later.tail
+
+-- a log with nothing in it, of the length of a volume's, is one
+empty_is : (size end : ℕ) → 0 < size → size ≤ 2 ^ 31 → IsPlainLog end end (empty_from size end)
+empty_is size end some limit = record {
+  counted = omega arith;
+  room = record { limit = limit; head = some; used = omega arith };
+  last = record { order = omega arith; tail = omega arith; head = omega arith; place = some };
+  unfinished = tt;
+}
 
 pub lost_is : (state : PlainState) (landed : Numbers) → IsPlainVolume state → MayLand state landed
     → IsPlainVolume (mounted_lost landed state)
@@ -162,12 +180,7 @@ lost_is state landed h may =
     (cache_with (empty_from size end)) h (omega (arith, frontier, h.opened))
     (recovers_sealed state landed h)
     (omega arith) (recovers_within state landed h) (newest_is_found state landed h) h.size
-    (record {
-      counted = omega arith;
-      room = record { limit = h.log.room.limit; head = some; used = omega arith };
-      last = record { order = omega arith; tail = omega arith; head = omega arith; place = some };
-      unfinished = tt;
-    })
+    (empty_is size end some h.log.room.limit)
 
 pub mounts_keep : MountsKeepPlainVolume
 mounts_keep state landed kept h may = (kept_is state landed kept h may, lost_is state landed h may)
@@ -194,6 +207,39 @@ mounted_head end seq count log found h later =
     let after_last = later.tail in
     let counted = h.counted in
     omega arith
+
+-- and its last object's end
+pub cut_end : (state : PlainState) (number count : ℕ) → end_at (stream_in (cut_to_count number count state)) number
+    ≡ end_at (stream_in state) number
+cut_end state number count =
+    let n = number - state.number in
+    ap (end_after state.end) (take-take n n state.objects (omega arith))
+
+-- a new device may have another length
+pub on_is : (state : PlainState) (landed : Numbers) (log : ℕ) → IsPlainVolume state → MayLand state landed
+    → IsTrue (is_within_limits (record state.geometry { log = log })) → IsPlainVolume (mounted_on log landed state)
+on_is state landed log h may limits =
+    let number = recovered_number landed state in
+    let end = recovered_end landed state in
+    let size = log_has_sectors (record state.geometry { log = log }) limits in
+    let was = lost_is state landed h may in
+    let within = recovers_within state landed h in
+    let counted = cut_count state number end h (omega arith) within in
+    record {
+      limits = limits;
+      sectors = was.sectors;
+      owned = was.owned;
+      in_range = was.in_range;
+      stream = was.stream;
+      window = was.window;
+      last = was.last;
+      opened = was.opened;
+      begun = was.begun;
+      checkpoint = was.checkpoint;
+      log = subst₂ (λ e c. IsPlainLog e c (empty_from log end)) (sym (cut_end state number end)) (sym counted)
+          (empty_is log end size.0 size.1);
+      size = refl;
+    }
 
 pub mounts_commit : MountsCommitEntries
 mounts_commit state landed kept h may =

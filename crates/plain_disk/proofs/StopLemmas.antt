@@ -36,7 +36,7 @@ from_number landed number (suc count) =
       | false ↦ omega arith
     ]
 
-up_to_count : (landed : Numbers) (number count : ℕ) → landed_after landed number count ≤ number + count
+pub up_to_count : (landed : Numbers) (number count : ℕ) → landed_after landed number count ≤ number + count
 up_to_count landed number zero = omega arith
 up_to_count landed number (suc count) =
     let rest : landed_after landed (number + 1) count ≤ number + 1 + count = up_to_count landed (number + 1) count in
@@ -46,7 +46,7 @@ up_to_count landed number (suc count) =
     ]
 
 -- all of them up to a number are reached
-reaches : (landed : Numbers) (number count to : ℕ) → ((k : ℕ) → number < k → k ≤ to → IsTrue (landed k)) → to ≤ number + count
+pub reaches : (landed : Numbers) (number count to : ℕ) → ((k : ℕ) → number < k → k ≤ to → IsTrue (landed k)) → to ≤ number + count
     → to ≤ landed_after landed number count
 reaches landed number zero to all is = omega arith
 reaches landed number (suc count) to all is =
@@ -58,7 +58,7 @@ reaches landed number (suc count) to all is =
     ]
 
 -- what is reached has landed, and the next has not
-have_landed : (landed : Numbers) (number count k : ℕ) → number < k → k ≤ landed_after landed number count → IsTrue (landed k)
+pub have_landed : (landed : Numbers) (number count k : ℕ) → number < k → k ≤ landed_after landed number count → IsTrue (landed k)
 have_landed landed number zero k above most = absurd (omega arith)
 have_landed landed number (suc count) k above most =
     elim (landed (number + 1)) as (λ b. landed (number + 1) ≡ b → k ≤ cond b (landed_after landed (number + 1) count) number
@@ -140,7 +140,8 @@ recovers_within state landed h = ends_within state (recovered_number landed stat
 
 -- ---- the commit that a stop leaves
 
-last_is_later : (end count : ℕ) (log : PlainLog) → IsPlainLog end count log → IsLaterCommit log.size end count log.last log.last
+pub last_is_later : (end count : ℕ) (log : PlainLog) → IsPlainLog end count log
+    → IsLaterCommit log.size end count log.last log.last
 last_is_later end count log h = record { within = h.last; tail = omega arith; head = omega arith }
 
 unfinished_is_later : (size end count : ℕ) (last : PlainCommit) (unfinished : Option PlainCommit)
@@ -193,7 +194,7 @@ stop_keeps_acknowledged state landed kept h may =
     )
 
 -- the newest checkpoint that has landed is one
-base_is_checkpoint : (state : PlainState) (landed : Numbers)
+pub base_is_checkpoint : (state : PlainState) (landed : Numbers)
     → is_checkpoint_from state (landed_checkpoint landed state).number ≡ true
 base_is_checkpoint state landed =
     let objects = state.window.objects in
@@ -208,7 +209,7 @@ base_is_checkpoint state landed =
     ∙ (both_true (get_or objects k d).is_checkpoint (landed n) is).0) in
     ap (λ b. eqb n state.checkpoint.number || b) there ∙ or-true (eqb n state.checkpoint.number))
 
-base_has_landed : (state : PlainState) (landed : Numbers) → IsPlainVolume state → MayLand state landed
+pub base_has_landed : (state : PlainState) (landed : Numbers) → IsPlainVolume state → MayLand state landed
     → IsTrue (landed (landed_checkpoint landed state).number)
 base_has_landed state landed h may =
     newest_is (λ c. IsTrue (landed c.number)) landed state state.checkpoint state.window.objects
@@ -238,7 +239,7 @@ none_newer landed state before low last (object ∷ objects) order =
     (λ is. from next (subst (λ b. object.number ≤ (cond b here before).number) (sym is) itself))
     (none_newer landed state next object.number last objects order.1)
 
-newest_of_all : (state : PlainState) (landed : Numbers) (other : ℕ) → IsPlainVolume state
+pub newest_of_all : (state : PlainState) (landed : Numbers) (other : ℕ) → IsPlainVolume state
     → is_checkpoint_from state other ≡ true → landed other ≡ true → other ≤ (landed_checkpoint landed state).number
 newest_of_all state landed other h is there =
     let objects = state.window.objects in
@@ -283,7 +284,7 @@ recovers_before_missing state landed checkpoint h may is =
     }
 
 -- the newest checkpoint that has landed is at most the lowest open object, since its put was begun
-base_is_lowest : (state : PlainState) (landed : Numbers) → IsPlainVolume state → MayLand state landed
+pub base_is_lowest : (state : PlainState) (landed : Numbers) → IsPlainVolume state → MayLand state landed
     → (landed_checkpoint landed state).number ≤ frontier_of state + 1
 base_is_lowest state landed h may =
     newest_is (λ c. c.number ≤ frontier_of state + 1) landed state state.checkpoint state.window.objects
@@ -294,7 +295,7 @@ base_is_lowest state landed h may =
     h.begun k d inside (ap (λ b. b && object.is_checkpoint) (may.begun k d inside is) ∙ checkpoint))
 
 -- what it maps has landed
-mapped_has_landed : (state : PlainState) (landed : Numbers) (number : ℕ) → IsPlainVolume state → MayLand state landed
+pub mapped_has_landed : (state : PlainState) (landed : Numbers) (number : ℕ) → IsPlainVolume state → MayLand state landed
     → 0 < number → number < (landed_checkpoint landed state).number
     → maps (landed_checkpoint landed state) number ≡ true → IsTrue (landed number)
 mapped_has_landed state landed number h may some before mapped =

@@ -13,3 +13,4 @@ pub mod Objects
 pub mod Step
 pub mod Stops
 pub mod Valid
+pub mod Found

@@ -1,5 +1,5 @@
 -- Contract: the state of the plain volume.
-use Rattle.std.specs.Prelude.{ℕ, ◌+◌, ◌-◌, Option, None, List, [], length, take, drop, map, slice_index_or}
+use Rattle.std.specs.Prelude.{◌≡◌, ℕ, ◌+◌, ◌-◌, Option, None, List, [], length, take, drop, map, slice_index_or}
 use Rattle.std.specs.List.{range_with_len}
 use Rattle.lsvd_base.specs.declared.geometry.Geometry.{Geometry}
 use Rattle.lsvd_base.specs.declared.entry.Entry.{Entry}
@@ -54,6 +54,13 @@ created_volume g = record {
   removal = None;
   cache = cache_with (empty_from g.log 0);
 }
+
+-- The volume opens blank, at its first object: so does one that is followed from its creation on.
+pub record OpensBlank (state : PlainState) : Type 0 where
+  pub number : state.number ≡ 1
+  pub end : state.end ≡ 0
+  pub opening : state.opening ≡ blank state.geometry.sectors
+  pub owned : state.owned ≡ []
 
 -- its stream of objects
 abbrev pub stream_in : PlainState → Stream

@@ -59,17 +59,28 @@ abbrev pub found_by : Numbers → (count : ℕ) → PlainState → PlainState
 found_by landed count state =
     found_with (recovered_number landed state) count (landed_checkpoint landed state) (absent_of landed state.given_out) state
 
--- with the cache: the log goes on after the commit, and a commit is made
-abbrev pub mounted_kept : Numbers → (kept : List Bool) → PlainState → PlainState
-mounted_kept landed kept state =
-    let found : PlainCommit = kept_commit kept state.cache in
+-- with the cache: the log goes on after the commit that is found, and a commit is made
+abbrev pub mounted_from : Numbers → (found : PlainCommit) → PlainState → PlainState
+mounted_from landed found state =
     record (found_by landed (kept_count landed found state) state) {
       cache = cache_with (mounted_log found (recovered_end landed state) state.cache.log);
     }
+
+-- with the cache that a stop left, which has the commit that it leaves
+abbrev pub mounted_kept : Numbers → (kept : List Bool) → PlainState → PlainState
+mounted_kept landed kept state = mounted_from landed (kept_commit kept state.cache) state
 
 -- without it, on a new device of the same length
 abbrev pub mounted_lost : Numbers → PlainState → PlainState
 mounted_lost landed state =
     record (found_by landed (recovered_end landed state) state) {
       cache = cache_with (empty_from state.cache.log.size (recovered_end landed state));
+    }
+
+-- without it, on a new device whose log has so many sectors, whatever length the log had
+abbrev pub mounted_on : (log : ℕ) → Numbers → PlainState → PlainState
+mounted_on log landed state =
+    record (found_by landed (recovered_end landed state) state) {
+      geometry = record state.geometry { log = log };
+      cache = cache_with (empty_from log (recovered_end landed state));
     }
