@@ -73,6 +73,7 @@ order_without_log uploads is =
         removal = known.removal;
         unmapped = known.unmapped;
         counted = known.counted;
+        shortest = known.shortest;
       };
       begun = is.begun;
       waiting = is.waiting;

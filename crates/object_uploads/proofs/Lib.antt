@@ -32,3 +32,5 @@ pub mod QueueSettled
 pub mod QueueStored
 pub mod SealedMapLemmas
 pub mod CheckpointLemmas
+pub mod PinsOf
+pub mod NewestLemmas

@@ -7,12 +7,14 @@ use Rattle.std.proofs.lemmas.Bool.{cases_lt}
 use Rattle.std.proofs.lemmas.Bool.Decides.{nat_tests}
 use Rattle.std.proofs.lemmas.List.{map-append}
 use Rattle.std.proofs.lemmas.List.Elements.{All-nil, All-cons, All-head, All-tail, All-push, All-weaker, All-map, All-filter}
+use Rattle.extent_map.specs.Extents.{IsShortest}
 use Rattle.lsvd_objstore.specs.Store.{ReceiptState}
 use Rattle.object_table.specs.declared.row.ObjectRow.{ObjectRow}
 use Rattle.object_table.specs.Table.{numbers, row_of, IsNewest}
 use Rattle.object_table.specs.Lists.{Climbs}
 use Rattle.object_table.proofs.Rows.{its_number}
 use Rattle.object_table.proofs.Listed.{found_holds}
+use Rattle.volume_maps.specs.Places.{object_on}
 use Rattle.volume_maps.specs.Maps.{MapsState}
 use Rattle.volume_maps.specs.Live.{IsCounted}
 use Rattle.object_uploads.specs.State.{NumberedReceipt, QueueState}
@@ -138,8 +140,9 @@ receipts_below number (first ∷ receipts) below =
 pub known_same : (old new : QueueState) → IsKnown old → new.frontier ≡ old.frontier → new.receipts ≡ old.receipts
     → new.removal ≡ old.removal → numbers new.maps.objects.rows ≡ numbers old.maps.objects.rows
     → new.maps.objects.checkpoint ≡ old.maps.objects.checkpoint → IfSome new.removal (IsDeadIn new.maps)
-    → UnmappedAreDead new.maps → IsCounted new.maps.settled.rows new.maps.objects → IsKnown new
-known_same old new known frontier receipts removal named checkpoint dead unmapped counted = record {
+    → UnmappedAreDead new.maps → IsCounted new.maps.settled.rows new.maps.objects → IsShortest object_on new.maps.settled.rows
+    → IsKnown new
+known_same old new known frontier receipts removal named checkpoint dead unmapped counted shortest = record {
   order = subst (Climbs 0) (sym named) known.order;
   from_one = renumbered (λ (n : ℕ). 1 ≤ n) old.maps.objects.rows new.maps.objects.rows named known.from_one;
   within = rw frontier
@@ -152,6 +155,7 @@ known_same old new known frontier receipts removal named checkpoint dead unmappe
   removal = dead;
   unmapped = unmapped;
   counted = counted;
+  shortest = shortest;
 }
 
 dead_in : (old new : MapsState) → new.objects.rows ≡ old.objects.rows → (n : ℕ) → IsDeadIn old n → IsDeadIn new n
@@ -167,7 +171,7 @@ known_kept old new known frontier receipts removal rows checkpoint settled =
     (unmapped_same old.maps new.maps rows checkpoint known.unmapped) (record {
       live = rw (rows, settled) known.counted.live;
       known = rw (rows, settled) known.counted.known;
-    })
+    }) (subst (IsShortest object_on) (sym settled) known.shortest)
 
 -- a queue that differs in what is not known of objects
 pub known_as : (old new : QueueState) → IsKnown old → new.frontier ≡ old.frontier → new.receipts ≡ old.receipts
@@ -201,8 +205,9 @@ pub known_more : (old new : QueueState) (number : ℕ) (receipt : ReceiptState) 
     → numbers new.maps.objects.rows ≡ numbers old.maps.objects.rows ++ number ∷ []
     → old.frontier ≤ new.frontier → number ≤ new.frontier → new.maps.objects.checkpoint ≤ new.frontier → KnowFromCheckpoint new
     → ((n : ℕ) → IsDeadIn old.maps n → IsDeadIn new.maps n) → UnmappedAreDead new.maps
-    → IsCounted new.maps.settled.rows new.maps.objects → IsKnown new
-known_more old new number receipt known newest receipts removal named later within checkpoint follow dead unmapped counted =
+    → IsCounted new.maps.settled.rows new.maps.objects → IsShortest object_on new.maps.settled.rows → IsKnown new
+known_more old new number receipt known newest receipts removal named later within checkpoint follow dead unmapped counted
+    shortest =
     let rows = old.maps.objects.rows in
     let own : NumberedReceipt = record { number = number; receipt = receipt } in
     let some : 0 < number = omega (arith, newest.above_checkpoint) in
@@ -226,6 +231,7 @@ known_more old new number receipt known newest receipts removal named later with
       removal = dead_out old.removal new.removal old.maps new.maps removal dead known.removal;
       unmapped = unmapped;
       counted = counted;
+      shortest = shortest;
     }
 
 -- ---- from the newest checkpoint on

@@ -6,11 +6,13 @@ use Rattle.std.specs.Prelude.{IsSome, IfSome, is_some, option_map}
 use Rattle.std.specs.List.{All}
 use Rattle.std.proofs.lemmas.Bool.Decides.{nat_tests}
 use Rattle.std.proofs.lemmas.List.Elements.{All-map, All-filter}
+use Rattle.extent_map.specs.Extents.{IsShortest}
 use Rattle.lsvd_objstore.specs.Store.{ReceiptState}
 use Rattle.object_table.specs.declared.row.ObjectRow.{ObjectRow}
 use Rattle.object_table.specs.Table.{numbers, row_of, without, IsRemovable}
 use Rattle.object_table.specs.Lists.{Climbs}
 use Rattle.object_table.proofs.Listed.{climbs_without}
+use Rattle.volume_maps.specs.Places.{object_on}
 use Rattle.volume_maps.specs.Live.{live_sectors, IsCounted}
 use Rattle.object_uploads.specs.State.{NumberedReceipt, QueueState}
 use Rattle.object_uploads.specs.Queue.{receipt_in}
@@ -99,6 +101,7 @@ known_taken old new number known none removable frontier receipts out same =
       removal = rw out (removable_is_dead number old.maps removable);
       unmapped = known.unmapped;
       counted = known.counted;
+      shortest = known.shortest;
     })
 
 -- ---- it is done
@@ -119,8 +122,9 @@ fewer_have P number rows order all =
 pub known_dropped : (old new : QueueState) (number : ℕ) → IsKnown old → old.removal ≡ Some number
     → new.frontier ≡ old.frontier → new.receipts ≡ old.receipts → new.removal ≡ None
     → new.maps.objects.rows ≡ without number old.maps.objects.rows
-    → new.maps.objects.checkpoint ≡ old.maps.objects.checkpoint → IsCounted new.maps.settled.rows new.maps.objects → IsKnown new
-known_dropped old new number known out frontier receipts none rows checkpoint counted =
+    → new.maps.objects.checkpoint ≡ old.maps.objects.checkpoint → IsCounted new.maps.settled.rows new.maps.objects
+    → new.maps.settled.rows ≡ old.maps.settled.rows → IsKnown new
+known_dropped old new number known out frontier receipts none rows checkpoint counted settled =
     let left = without number old.maps.objects.rows in
     let nums = numbers old.maps.objects.rows in
     record {
@@ -138,6 +142,7 @@ known_dropped old new number known out frontier receipts none rows checkpoint co
       removal = rw none tt;
       unmapped = unmapped_dropped number old.maps new.maps known.order rows checkpoint known.unmapped;
       counted = counted;
+      shortest = subst (IsShortest object_on) (sym settled) known.shortest;
     }
 
 -- ---- it failed
@@ -171,6 +176,7 @@ known_back old new number receipt known out frontier receipts none same =
       removal = rw none tt;
       unmapped = known.unmapped;
       counted = known.counted;
+      shortest = known.shortest;
     })
 
 -- ---- how many receipts are left

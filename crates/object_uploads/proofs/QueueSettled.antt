@@ -91,7 +91,7 @@ known_settled old new middle payload front list receipt known frontier receipts 
     (follow_more old new next receipt known receipts (λ n high most. omega (arith, frontier)) checkpoint)
     (dead_settled next row list old.maps new.maps known.counted newest.above_rows objects places shortest counted)
     (unmapped_settled next payload front list old.maps new.maps known.counted newest.above_rows objects places shortest counted
-    known.unmapped) counted
+    known.unmapped) counted shortest
 
 -- ---- a checkpoint is acknowledged
 
@@ -99,8 +99,8 @@ pub known_passed : (old new : QueueState) (number : ℕ) (receipt : ReceiptState
     → old.frontier ≤ number → new.frontier ≡ number
     → new.receipts ≡ old.receipts ++ record { number = number; receipt = receipt } ∷ [] → new.removal ≡ old.removal
     → new.maps.objects.rows ≡ (acknowledged number old.maps.objects).rows → new.maps.objects.checkpoint ≡ number
-    → IsCounted new.maps.settled.rows new.maps.objects → IsKnown new
-known_passed old new number receipt known newest later frontier receipts removal rows checkpoint counted =
+    → IsCounted new.maps.settled.rows new.maps.objects → new.maps.settled.rows ≡ old.maps.settled.rows → IsKnown new
+known_passed old new number receipt known newest later frontier receipts removal rows checkpoint counted settled =
     let before = old.maps.objects.rows in
     let named : numbers new.maps.objects.rows ≡ numbers before ++ number ∷ [] =
     ap numbers rows
@@ -110,6 +110,7 @@ known_passed old new number receipt known newest later frontier receipts removal
     (omega (arith, checkpoint, frontier)) (follow_at new old.receipts number receipt receipts checkpoint frontier)
     (dead_passed number old.maps new.maps rows)
     (unmapped_passed number old.maps new.maps rows checkpoint newest.above_rows) counted
+    (subst (IsShortest object_on) (sym settled) known.shortest)
 
 -- ---- an object is found
 
@@ -117,8 +118,9 @@ pub known_found : (old new : QueueState) (number payload front : ℕ) (receipt :
     → IsNewest old.maps.objects number → number ≤ old.frontier → new.frontier ≡ old.frontier
     → new.receipts ≡ old.receipts ++ record { number = number; receipt = receipt } ∷ [] → new.removal ≡ old.removal
     → new.maps.objects.rows ≡ old.maps.objects.rows ++ new_row number payload front ∷ []
-    → new.maps.objects.checkpoint ≡ old.maps.objects.checkpoint → IsCounted new.maps.settled.rows new.maps.objects → IsKnown new
-known_found old new number payload front receipt known newest within frontier receipts removal rows checkpoint counted =
+    → new.maps.objects.checkpoint ≡ old.maps.objects.checkpoint → IsCounted new.maps.settled.rows new.maps.objects
+    → new.maps.settled.rows ≡ old.maps.settled.rows → IsKnown new
+known_found old new number payload front receipt known newest within frontier receipts removal rows checkpoint counted settled =
     let before = old.maps.objects.rows in
     let row = new_row number payload front in
     let named : numbers new.maps.objects.rows ≡ numbers before ++ number ∷ [] =
@@ -128,27 +130,30 @@ known_found old new number payload front receipt known newest within frontier re
     (follow_more old new number receipt known receipts (λ n high most. absurd (omega (arith, frontier))) checkpoint)
     (λ n dead. (dead.0, ap (row_of n) rows ∙ row_still n before (row ∷ []) dead.0 dead.1, dead.2, dead.3))
     (unmapped_found number payload front old.maps new.maps rows checkpoint known.unmapped) counted
+    (subst (IsShortest object_on) (sym settled) known.shortest)
 
 -- ---- the same objects, with other live sectors or pins
 
 pub known_mapped : (old new : QueueState) → IsKnown old → new.frontier ≡ old.frontier → new.receipts ≡ old.receipts
     → new.removal ≡ old.removal → old.removal ≡ None → HasSameObjects old.maps.objects new.maps.objects
-    → UnmappedAreDead new.maps → IsCounted new.maps.settled.rows new.maps.objects → IsKnown new
-known_mapped old new known frontier receipts removal none same unmapped counted =
+    → UnmappedAreDead new.maps → IsCounted new.maps.settled.rows new.maps.objects → IsShortest object_on new.maps.settled.rows
+    → IsKnown new
+known_mapped old new known frontier receipts removal none same unmapped counted shortest =
     known_same old new known frontier receipts removal (same_numbers old.maps.objects new.maps.objects same) same.checkpoint
-    (subst (λ o. IfSome o (IsDeadIn new.maps)) (sym (removal ∙ none)) tt) unmapped counted
+    (subst (λ o. IfSome o (IsDeadIn new.maps)) (sym (removal ∙ none)) tt) unmapped counted shortest
 
 pub known_pinned : (change : ObjectRow → ObjectRow) (number : ℕ) (old new : QueueState)
     → ((r : ObjectRow) → but_pins (change r) ≡ but_pins r) → IsKnown old → new.frontier ≡ old.frontier
     → new.receipts ≡ old.receipts → new.removal ≡ old.removal
     → new.maps.objects ≡ with_changed change number old.maps.objects
-    → IsCounted new.maps.settled.rows new.maps.objects → IsKnown new
-known_pinned change number old new keeps known frontier receipts removal same counted =
+    → IsCounted new.maps.settled.rows new.maps.objects → new.maps.settled.rows ≡ old.maps.settled.rows → IsKnown new
+known_pinned change number old new keeps known frontier receipts removal same counted settled =
     known_same old new known frontier receipts removal
     (numbers_pinned change number old.maps.objects new.maps.objects keeps same)
     (ap (λ (t : TableState). t.checkpoint) same)
     (dead_out old.removal new.removal old.maps new.maps removal (dead_pinned change number old.maps new.maps keeps same)
     known.removal) (unmapped_pinned change number old.maps new.maps keeps same known.unmapped) counted
+    (subst (IsShortest object_on) (sym settled) known.shortest)
 
 -- ---- an object is settled in maps whose room changed before
 

@@ -52,6 +52,7 @@ known_named uuid queue known named = record {
   removal = known.removal;
   unmapped = known.unmapped;
   counted = known.counted;
+  shortest = known.shortest;
 }
 
 -- counts, and objects without a live sector, of the same rows
@@ -88,6 +89,7 @@ are_known_same uuid old new known frontier receipts removal same = record {
   removal = rw removal (dead_same old.maps new.maps old.removal same known.removal);
   unmapped = unmapped_same old.maps new.maps same.objects same.checkpoint known.unmapped;
   counted = counted_same old.maps new.maps same known.counted;
+  shortest = rw same.settled known.shortest;
 }
 
 -- while an entry is entered too
@@ -107,6 +109,7 @@ are_known_entered uuid old new known frontier receipts removal settled objects =
   unmapped = unmapped_same old.maps new.maps (ap (λ (t : TableState). t.rows) objects)
       (ap (λ (t : TableState). t.checkpoint) objects) known.unmapped;
   counted = rw (settled, objects) known.counted;
+  shortest = rw settled known.shortest;
 }
 
 -- the same rows give the same places
@@ -350,6 +353,7 @@ uploads_begin uuid sectors queue window low sealed receipts removal settled obje
           live = rw (settled, objects) (All-nil (λ (object : ObjectRow). object.live ≡ live_sectors object.number []));
           known = rw settled (All-nil _);
         };
+        shortest = rw settled tt;
       };
       begun = All-nil (IsAtIfBegun (queue.frontier + 1));
       waiting = rw sealed tt;

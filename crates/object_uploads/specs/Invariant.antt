@@ -2,12 +2,14 @@
 use Rattle.std.specs.Prelude.{◌≡◌, ℕ, zero, suc, ◌≤◌, not, Bool, Option, None, Some, IfSome, List, [], ◌∷◌, length, map}
 use Rattle.std.specs.List.{All, AllByRecursion, filter}
 use Rattle.extent_map.specs.declared.extent.Extent.{Extent}
+use Rattle.extent_map.specs.Extents.{IsShortest}
 use Rattle.ckpt_format.specs.declared.place.StoredPlace.{StoredPlace}
 use Rattle.object_format.specs.declared.data_row.DataRow.{DataRow}
 use Rattle.object_table.specs.declared.row.ObjectRow.{ObjectRow}
 use Rattle.object_table.specs.Table.{numbers}
 use Rattle.object_table.specs.Lists.{Climbs}
 use Rattle.volume_maps.specs.declared.place.ObjectPlace.{ObjectPlace}
+use Rattle.volume_maps.specs.Places.{object_on}
 use Rattle.volume_maps.specs.Maps.{RowsFit}
 use Rattle.volume_maps.specs.Live.{IsCounted}
 use Rattle.object_uploads.specs.declared.rows.SealedRows.{SealedRows}
@@ -63,6 +65,7 @@ pub record IsKnown (queue : QueueState) : Type 0 where
   pub removal : IfSome queue.removal (IsDeadIn queue.maps)
   pub unmapped : UnmappedAreDead queue.maps
   pub counted : IsCounted queue.maps.settled.rows queue.maps.objects
+  pub shortest : IsShortest object_on queue.maps.settled.rows
 
 -- ---- what calls change
 

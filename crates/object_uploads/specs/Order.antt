@@ -2,6 +2,7 @@
 use Rattle.std.specs.Prelude.{◌≡◌, ℕ, ◌+◌, ◌<◌, ◌≤◌, ◌==◌, ◌&&◌, Bool, IsTrue, false, not, Option, Some, None, IsSome, IfSome}
 use Rattle.std.specs.Prelude.{List, [], ◌∷◌, length, map}
 use Rattle.std.specs.List.{All, AllByRecursion, filter}
+use Rattle.extent_map.specs.Extents.{IsShortest}
 use Rattle.lsvd_names.specs.Names.{numbered_name}
 use Rattle.lsvd_objstore.specs.Store.{ReceiptState}
 use Rattle.upload_window.specs.declared.object.OpenObject.{OpenObject}
@@ -10,6 +11,7 @@ use Rattle.object_table.specs.declared.row.ObjectRow.{ObjectRow}
 use Rattle.object_table.specs.Table.{row_of, numbers}
 use Rattle.object_table.specs.Lists.{Climbs}
 use Rattle.volume_maps.specs.declared.place.ObjectPlace.{ObjectPlace}
+use Rattle.volume_maps.specs.Places.{object_on}
 use Rattle.volume_maps.specs.Maps.{MapsState, settled_at}
 use Rattle.volume_maps.specs.Live.{IsCounted}
 use Rattle.object_uploads.specs.State.{SealedState, NumberedReceipt, QueueState, UploadsState}
@@ -79,7 +81,7 @@ KnowFromCheckpoint queue =
 -- The table has objects from number 1 up to the frontier alone, as the newest acknowledged checkpoint is, by ascending number.
 -- What the store gave, each under its object's name, is for just these, but for one whose removal is out, which nothing maps; and
 -- it has those from that checkpoint on. The table counts the live sectors, of which none is in what that checkpoint passed and
--- does not map.
+-- does not map. The objects' map is its shortest list of rows.
 pub record AreKnown (uuid : List ℕ) (queue : QueueState) : Type 0 where
   pub order : Climbs 0 (numbers queue.maps.objects.rows)
   pub from_one : All (λ (object : ObjectRow). 1 ≤ object.number) queue.maps.objects.rows
@@ -92,6 +94,7 @@ pub record AreKnown (uuid : List ℕ) (queue : QueueState) : Type 0 where
   pub removal : IfSome queue.removal (IsDeadIn queue.maps)
   pub unmapped : UnmappedAreDead queue.maps
   pub counted : IsCounted queue.maps.settled.rows queue.maps.objects
+  pub shortest : IsShortest object_on queue.maps.settled.rows
 
 -- ---- places
 

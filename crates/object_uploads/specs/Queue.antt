@@ -170,6 +170,23 @@ stored_of queue owner =
 abbrev pub stored_at : QueueState → ObjectPlace → Option StoredObject
 stored_at queue place = stored_of queue (record { level = place.level; number = place.number })
 
+-- the pins that are on the object of a row, none on one that is not in the table
+abbrev pub pins_of : Option ObjectRow → ℕ
+pins_of None = 0
+pins_of (Some row) = row.pins
+
+-- ---- checkpoints
+
+-- the newest checkpoint of some objects from a number on, or the one before them
+abbrev pub newest_of : (before number : ℕ) → List SealedState → ℕ
+newest_of before number [] = before
+newest_of before number (sealed ∷ more) =
+    newest_of (if is_checkpoint sealed.rows then number else before) (number + 1) more
+
+-- the newest checkpoint that was sealed: one past the frontier, or else the newest acknowledged one
+abbrev pub newest_checkpoint : QueueState → ℕ
+newest_checkpoint queue = newest_of queue.maps.objects.checkpoint (queue.frontier + 1) queue.sealed
+
 -- ---- settled objects
 
 -- the data object of a number, which has so many bytes, these rows and this end, was settled in the maps and added to the table

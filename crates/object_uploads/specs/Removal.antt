@@ -2,9 +2,10 @@
 use Rattle.std.specs.Prelude.{◌≡◌, ℕ, nat_lt, ◌==◌, Option, Some, None, List, [], ◌∷◌, if◌then◌else◌}
 use Rattle.lsvd_objstore.specs.Store.{ReceiptState}
 use Rattle.object_table.specs.declared.row.ObjectRow.{ObjectRow}
-use Rattle.object_table.specs.Table.{TableState, IsLowestRemovable, without, with_changed}
+use Rattle.object_table.specs.Table.{TableState, IsLowestRemovable, without, with_changed, pinned, unpinned}
 use Rattle.object_uploads.specs.State.{NumberedReceipt, UploadsState}
 use Rattle.object_uploads.specs.Queue.{receipt_in}
+use Rattle.object_uploads.specs.Order.{IsUploads}
 
 -- all is as before but for receipts, the removal that is out, and the table of objects
 pub record IsSameButObjects (old new : UploadsState) : Type 0 where
@@ -25,6 +26,20 @@ pub record HasChangedPins (change : ObjectRow → ObjectRow) (number : ℕ) (old
   pub receipts : new.queue.receipts ≡ old.queue.receipts
   pub removal : new.queue.removal ≡ old.queue.removal
   pub objects : new.queue.maps.objects ≡ with_changed change number old.queue.maps.objects
+
+-- the pins of each of some objects were changed, one after the other
+abbrev pub ChangesPinsEach : (change : ObjectRow → ObjectRow) → List ℕ → (old new : UploadsState) → Type 0
+ChangesPinsEach change [] old new = new ≡ old
+ChangesPinsEach change (number ∷ numbers) old new =
+    (middle : UploadsState) × HasChangedPins change number old middle × IsUploads middle
+    × ChangesPinsEach change numbers middle new
+
+-- each of them was pinned once more, and once less
+abbrev pub PinsEach : List ℕ → (old new : UploadsState) → Type 0
+PinsEach numbers old new = ChangesPinsEach pinned numbers old new
+
+abbrev pub UnpinsEach : List ℕ → (old new : UploadsState) → Type 0
+UnpinsEach numbers old new = ChangesPinsEach unpinned numbers old new
 
 -- ---- removals
 

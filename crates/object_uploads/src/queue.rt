@@ -20,7 +20,7 @@ ghost use Rattle.object_uploads.specs.Queue.{with_at, just_sealed, with_spare, w
 ghost use Rattle.object_uploads.specs.Queue.{HasBytesAt, HasRoomForEntry, end_of_last, sealed_at, row_count};
 ghost use Rattle.object_uploads.specs.Queue.{HasRoomForObject, HasSamePlaces, IsEntered, IsSettledBy};
 ghost use Rattle.object_uploads.specs.Queue.{SettlesObject, SettlesCheckpoint, IsNextSettled, FirstWaits};
-ghost use Rattle.object_uploads.specs.Queue.{stored_at};
+ghost use Rattle.object_uploads.specs.Queue.{stored_at, pins_of, newest_checkpoint};
 ghost use Rattle.object_uploads.specs.declared.rows.SealedRows.TheVariants.{Data, Checkpoint};
 ghost use Rattle.object_uploads.specs.Changes.{HasSameSettled};
 
@@ -249,6 +249,17 @@ impl<R: Receipt> Queue<R> {
         }
     }
 
+    // The newest checkpoint that was sealed: one past the frontier, or else the newest acknowledged one.
+    pub(crate) fn newest_checkpoint(&self) -> u64
+        ensures { result ≡ newest_checkpoint self.now }
+    {
+        let mut newest = self.maps.checkpoint();
+        for index in 0..self.sealed.len() {
+            newest = self.sealed[index].newest_checkpoint(newest, self.frontier + index as u64 + 1);
+        }
+        newest
+    }
+
     // The object whose removal is out.
     pub(crate) fn removal(&self) -> Option<u64>
         ensures { result ≡ self.now.removal }
@@ -323,6 +334,16 @@ impl<R: Receipt> Queue<R> {
         ensures known { IsKnown self.new }
     {
         self.maps.unpin(number);
+    }
+
+    // How many pins are on an object, none on one that is not known.
+    pub(crate) fn pins(&self, number: u64) -> u64
+        ensures { result ≡ pins_of (row_of number self.now.maps.objects.rows) }
+    {
+        match self.maps.object(number) {
+            Some(object) => object.pins,
+            None => 0,
+        }
     }
 
     // Adds an object that was found in the store, with a greater number than those before it, up to the

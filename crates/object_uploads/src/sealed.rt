@@ -1,9 +1,9 @@
 ghost use Rattle.std.specs.Prelude.{◌≡◌, true, false, None, Some, IsTrue, IsSome, IfSome, option_map, ◌↔◌};
-ghost use Rattle.std.specs.Prelude.{ℕ, ◌+◌, ◌≤◌, length};
+ghost use Rattle.std.specs.Prelude.{ℕ, ◌+◌, ◌≤◌, length, [], ◌∷◌};
 ghost use Rattle.extent_map.specs.Extents.{place_at};
 ghost use Rattle.volume_maps.specs.Places.{object_on};
 ghost use Rattle.object_uploads.specs.Queue.{spare_of, just_sealed, with_spare, with_receipt, row_count};
-ghost use Rattle.object_uploads.specs.Queue.{settled_by_rows};
+ghost use Rattle.object_uploads.specs.Queue.{settled_by_rows, newest_of};
 ghost use Rattle.object_uploads.specs.Invariant.{MaySettle};
 
 use crate::rows::SealedRows;
@@ -95,6 +95,17 @@ impl<R: Receipt> Sealed<R> {
         ensures spare { map.old.spare ≤ map.new.spare + row_count self.now }
     {
         self.rows.settle_in(map, number);
+    }
+
+    // Its number, where it is a checkpoint, and else that of the newest one before it.
+    pub(crate) fn newest_checkpoint(&self, before: u64, number: u64) -> u64
+        ensures { result ≡ newest_of before number (self.now ∷ []) }
+    {
+        if self.rows.is_checkpoint() {
+            number
+        } else {
+            before
+        }
     }
 
     // Whether it is acknowledged.

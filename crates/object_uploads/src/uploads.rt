@@ -11,7 +11,7 @@ ghost use Rattle.volume_maps.specs.Maps.{volume_place_at};
 ghost use Rattle.volume_maps.specs.Live.{MayGain};
 ghost use Rattle.object_uploads.specs.declared.rows.SealedRows.TheVariants.{Data};
 ghost use Rattle.object_uploads.specs.Queue.{FitObject, HasRoomForEntry, HasRoomForObject, IsEntered};
-ghost use Rattle.object_uploads.specs.Queue.{stored_at};
+ghost use Rattle.object_uploads.specs.Queue.{stored_at, pins_of, newest_checkpoint};
 ghost use Rattle.object_uploads.specs.Order.{IsUploads};
 ghost use Rattle.object_uploads.specs.Invariant.{IsOpenAt};
 ghost use Rattle.object_uploads.specs.Changes.{index_of, IsSealedNext, IsNotSealed, with_job, IsJobOf, IsOut};
@@ -142,6 +142,14 @@ impl<R: Receipt> Uploads<R> {
         Ok(expected.number)
     }
 
+    /// The number of the newest checkpoint that was sealed, 0 for none: the last one past the frontier, or
+    /// else the newest acknowledged one.
+    pub fn newest_checkpoint(&self) -> u64
+        ensures { result ≡ newest_checkpoint self.now.queue }
+    {
+        self.queue.newest_checkpoint()
+    }
+
     /// Begins the removal of the lowest object that may be removed: the newest acknowledged checkpoint has a
     /// greater number, and does not map it, and no pin is on it. What the store gave for it is handed out.
     /// None is where there is no such object, and where a removal is out. It takes no memory.
@@ -154,6 +162,7 @@ impl<R: Receipt> Uploads<R> {
             self.old self.new) }
         ensures same { IfNone result (self.new ≡ self.old) }
         ensures order { IsUploads self.old }
+        ensures stays { IsUploads self.new }
     {
         let (_, receipt) = self.queue.take_remove()?;
         Some(receipt)
@@ -166,6 +175,7 @@ impl<R: Receipt> Uploads<R> {
         ensures done { IsTrue result → FinishesRemoval number self.old self.new }
         ensures same { result ≡ false → self.new ≡ self.old }
         ensures order { IsUploads self.old }
+        ensures stays { IsUploads self.new }
     {
         if self.queue.removal() != Some(number) {
             return false;
@@ -185,6 +195,7 @@ impl<R: Receipt> Uploads<R> {
         ensures refused { IfErr result (λ back. back ≡ receipt) }
         ensures same { OnErr result (self.new ≡ self.old) }
         ensures order { IsUploads self.old }
+        ensures stays { IsUploads self.new }
     {
         let name = receipt.name();
         let number = name.number;
@@ -200,6 +211,8 @@ impl<R: Receipt> Uploads<R> {
     pub fn pin(&mut self, number: u64)
         requires { IfSome (row_of number self.old.queue.maps.objects.rows) (λ row. row.pins + 1 < 2 ^ 64) }
         ensures pinned { HasChangedPins pinned number self.old self.new }
+        ensures order { IsUploads self.old }
+        ensures order_after { IsUploads self.new }
     {
         self.queue.pin(number);
     }
@@ -209,8 +222,17 @@ impl<R: Receipt> Uploads<R> {
     pub fn unpin(&mut self, number: u64)
         requires { IfSome (row_of number self.old.queue.maps.objects.rows) (λ row. 0 < row.pins) }
         ensures unpinned { HasChangedPins unpinned number self.old self.new }
+        ensures order { IsUploads self.old }
+        ensures order_after { IsUploads self.new }
     {
         self.queue.unpin(number);
+    }
+
+    /// How many pins are on an object, none on one that is not known.
+    pub fn pins(&self, number: u64) -> u64
+        ensures { result ≡ pins_of (row_of number self.now.queue.maps.objects.rows) }
+    {
+        self.queue.pins(number)
     }
 
     /// Takes up an object that a mount found in the store before the checkpoint at the frontier, with so many
@@ -319,6 +341,8 @@ impl<R: Receipt> Uploads<R> {
         ensures frontier { IfOk result (λ frontier. frontier ≡ self.new.queue.frontier) }
         ensures back { IfErr result (λ back. back ≡ receipt) }
         ensures same { OnErr result (self.new ≡ self.old) }
+        ensures order { IsUploads self.old }
+        ensures stays { IsUploads self.new }
     {
         let number = job.name().number;
         let Some(index) = self.index_out(number, job.object()) else {
@@ -392,6 +416,7 @@ impl<R: Receipt> Uploads<R> {
             sectors (volume_place_at self.now.queue.maps) k) }
         ensures shortest { IfOk result (λ rows. IsShortest volume_on rows.items) }
         ensures fits { IfOk result (λ rows. AllFit volume_number rows.items) }
+        ensures order { IsUploads self.now }
     {
         self.queue.maps().look(alloc, lba, sectors)
     }

@@ -214,6 +214,13 @@ impl VolumeMaps {
         self.objects.row(number)
     }
 
+    /// The number of the newest acknowledged checkpoint, 0 for none.
+    pub fn checkpoint(&self) -> u64
+        ensures { result ≡ self.now.objects.checkpoint }
+    {
+        self.objects.checkpoint()
+    }
+
     /// Pins an object once more, so that it is not removed. One that is absent changes nothing. It has fewer
     /// than 2^64 - 1 pins (a condition). It takes no memory.
     pub fn pin(&mut self, number: u64)

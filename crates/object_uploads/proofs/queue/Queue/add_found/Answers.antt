@@ -33,7 +33,8 @@ invariant_of-self-2 g c =
       known_found _ _ c.args.number c.args.payload c.args.front (g.R.Receipt.state c.args.receipt) before.2 newest within refl
           (c.push.ensures.list ∙ ap (λ (list : List NumberedReceipt). list ++ own ∷ []) c.reserve.ensures.list) refl
           (ap (λ (m : MapsState). m.objects.rows) added ∙ ap (λ (rows : List ObjectRow). rows ++ row ∷ []) e.rows)
-          (ap (λ (m : MapsState). m.objects.checkpoint) added ∙ e.checkpoint) c.add_object.ensures.counted,
+          (ap (λ (m : MapsState). m.objects.checkpoint) added ∙ e.checkpoint) c.add_object.ensures.counted
+          (ap (λ (m : MapsState). m.settled.rows) added ∙ e.settled_rows),
       before.3,
       omega (arith, size, ap count_out out),
       omega (arith, size),
@@ -53,6 +54,7 @@ returns-clause-known g c =
     (c.push.ensures.list ∙ ap (λ (list : List NumberedReceipt). list ++ own ∷ []) c.reserve.ensures.list) refl
     (ap (λ (m : MapsState). m.objects.rows) added ∙ ap (λ (rows : List ObjectRow). rows ++ row ∷ []) e.rows)
     (ap (λ (m : MapsState). m.objects.checkpoint) added ∙ e.checkpoint) c.add_object.ensures.counted
+    (ap (λ (m : MapsState). m.settled.rows) added ∙ e.settled_rows)
 
 pub invariant_of-self-in_err-reserve-2 : goal.invariant_of-self-in_err-reserve-2
 invariant_of-self-in_err-reserve-2 g c =

@@ -35,7 +35,8 @@ invariant_of-self-2 g c =
           (c.push.ensures.list ∙ ap (λ (list : List NumberedReceipt). list ++ own ∷ []) c.reserve.ensures.list) refl
           (ap (λ (m : MapsState). m.objects.rows) now.passed
           ∙ ap (λ (rows : List ObjectRow). map passed rows ++ new_row number 0 0 ∷ []) e.rows)
-          (ap (λ (m : MapsState). m.objects.checkpoint) now.passed) now.counted,
+          (ap (λ (m : MapsState). m.objects.checkpoint) now.passed) now.counted
+          (ap (λ (m : MapsState). m.settled.rows) now.passed ∙ e.settled_rows),
       before.3,
       omega (arith, size, ap count_out out),
       omega (arith, size),
@@ -54,6 +55,7 @@ returns-clause-known g c =
     (ap (λ (m : MapsState). m.objects.rows) now.passed
     ∙ ap (λ (rows : List ObjectRow). map passed rows ++ new_row number 0 0 ∷ []) e.rows)
     (ap (λ (m : MapsState). m.objects.checkpoint) now.passed) now.counted
+    (ap (λ (m : MapsState). m.settled.rows) now.passed ∙ e.settled_rows)
 
 pub invariant_of-self-in_err-reserve-2 : goal.invariant_of-self-in_err-reserve-2
 invariant_of-self-in_err-reserve-2 g c =

@@ -42,7 +42,7 @@ invariant_of-self-2 g c =
     let size = ap (λ (list : List SealedState). length list) none in (
       room_none c.self.inside.sealed.items c.map_sectors.new.self none,
       before.1,
-      known_mapped _ _ before.2 refl refl refl out same (unmapped g c) now.counted,
+      known_mapped _ _ before.2 refl refl refl out same (unmapped g c) now.counted now.shortest,
       before.3,
       before.4,
       omega (arith, size),
@@ -58,7 +58,7 @@ returns-clause-known g c =
       rows = now.objects.rows ∙ ap (λ (rows : List ObjectRow). map but_live rows) e.rows;
       checkpoint = now.objects.checkpoint ∙ e.checkpoint;
     } in
-    known_mapped _ _ c.self.invariant.2 refl refl refl out same (unmapped g c) now.counted
+    known_mapped _ _ c.self.invariant.2 refl refl refl out same (unmapped g c) now.counted now.shortest
 
 pub invariant_of-self : goal.invariant_of-self
 invariant_of-self g c =

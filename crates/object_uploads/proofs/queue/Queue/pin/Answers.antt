@@ -13,7 +13,8 @@ invariant_of-self g c =
       room_same _ c.self.inside.maps c.pin.new.self (ap (λ (m : MapsState). m.settled) e.pinned)
           (ap (λ (m : MapsState). m.log) e.pinned) before.0,
       before.1,
-      known_pinned pinned c.args.number _ _ (λ r. refl) before.2 refl refl refl objects e.counted,
+      known_pinned pinned c.args.number _ _ (λ r. refl) before.2 refl refl refl objects e.counted
+          (ap (λ (m : MapsState). m.settled.rows) e.pinned),
       before.3,
       before.4,
       omega (arith, before.5, ap (λ (t : TableState). t.spare) objects),
@@ -25,4 +26,4 @@ returns-clause-known g c =
     let e = c.pin.ensures in
     known_pinned pinned c.args.number _ _ (λ r. refl) c.self.invariant.2 refl refl refl (ap (λ
     (m : MapsState). m.objects) e.pinned)
-    e.counted
+    e.counted (ap (λ (m : MapsState). m.settled.rows) e.pinned)

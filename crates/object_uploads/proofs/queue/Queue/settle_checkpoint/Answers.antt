@@ -24,7 +24,8 @@ invariant_of-self g c =
       before.1,
       known_passed _ _ (c.self.inside.frontier + 1) (g.R.Receipt.state c.args.receipt) before.2 (next_is_newest _ before.2)
           (omega arith) refl c.push.ensures.list refl (ap (λ (m : MapsState). m.objects.rows) e.passed)
-          (ap (λ (m : MapsState). m.objects.checkpoint) e.passed) e.counted,
+          (ap (λ (m : MapsState). m.objects.checkpoint) e.passed) e.counted
+          (ap (λ (m : MapsState). m.settled.rows) e.passed),
       before.3,
       counts.0,
       counts.1,

@@ -13,7 +13,8 @@ invariant_of-self g c =
       room_same _ c.self.inside.maps c.unpin.new.self (ap (λ (m : MapsState). m.settled) e.unpinned)
           (ap (λ (m : MapsState). m.log) e.unpinned) before.0,
       before.1,
-      known_pinned unpinned c.args.number _ _ (λ r. refl) before.2 refl refl refl objects e.counted,
+      known_pinned unpinned c.args.number _ _ (λ r. refl) before.2 refl refl refl objects e.counted
+          (ap (λ (m : MapsState). m.settled.rows) e.unpinned),
       before.3,
       before.4,
       omega (arith, before.5, ap (λ (t : TableState). t.spare) objects),
@@ -25,4 +26,4 @@ returns-clause-known g c =
     let e = c.unpin.ensures in
     known_pinned unpinned c.args.number _ _ (λ r. refl) c.self.invariant.2 refl refl refl (ap (λ
     (m : MapsState). m.objects) e.unpinned)
-    e.counted
+    e.counted (ap (λ (m : MapsState). m.settled.rows) e.unpinned)

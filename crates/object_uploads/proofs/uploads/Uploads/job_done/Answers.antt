@@ -1,9 +1,11 @@
 use Rattle.std.proofs.Common.{◌≡◌, true, false, sym, subst, ◌∙◌, rules}
 use Rattle.object_uploads.specs.State.{UploadsState}
 use Rattle.upload_window.specs.Window.{is_started}
+use Rattle.object_uploads.specs.Order.{IsUploads}
 use Rattle.object_uploads.specs.Invariant.{IsOpenAt}
 use Rattle.object_uploads.proofs.OpenLemmas.{inside}
-use Rattle.object_uploads.proofs.UploadsKept.{IsOpenIn, uploads_done}
+use Rattle.object_uploads.proofs.UploadsKept.{whole, IsOpenIn, uploads_done}
+use Rattle.object_uploads.proofs.uploads.Uploads.job_done.Given as given
 use Rattle.object_uploads.proofs.uploads.Uploads.job_done.Goals as goal
 
 pub acknowledge-requires : goal.acknowledge-requires
@@ -12,8 +14,9 @@ acknowledge-requires g c =
     c.in-Some.ensures.there in
     inside c.in-Some.index c.self.inside.queue.sealed false opened
 
-pub invariant_of-self : goal.invariant_of-self
-invariant_of-self g c =
+stays : (g : given.Over) (c : goal.After-frontier g)
+    → IsUploads (whole c.self.inside.uuid c.self.inside.sectors c.settle.new.self c.ack.new.self)
+stays g c =
     let number = c.name.result.now.number in
     let own = c.self.inside in
     let in_ : IsOpenIn c.args.self.now.queue number c.in-Some.index false =
@@ -27,3 +30,9 @@ invariant_of-self g c =
     c.settle.ensures.settled.1 c.settle.ensures.waits c.frontier.ensures.known
     (c.ack.ensures.begun started)
     (c.ack.ensures.acknowledged started)
+
+pub invariant_of-self : goal.invariant_of-self
+invariant_of-self g c = stays g c
+
+pub returns-clause-stays : goal.returns-clause-stays
+returns-clause-stays g c = stays g c

@@ -1,12 +1,15 @@
 use Rattle.std.proofs.Common.{◌≡◌, subst, sym, rules}
 use Rattle.std.specs.List.{All}
 use Rattle.lsvd_names.specs.Names.{numbered_name}
+use Rattle.object_uploads.specs.Order.{IsUploads}
 use Rattle.object_uploads.proofs.NamesKept.{IsNamed, named_with}
-use Rattle.object_uploads.proofs.UploadsKept.{uploads_changed}
+use Rattle.object_uploads.proofs.UploadsKept.{whole, uploads_changed}
+use Rattle.object_uploads.proofs.uploads.Uploads.remove_failed.Given as given
 use Rattle.object_uploads.proofs.uploads.Uploads.remove_failed.Goals as goal
 
-pub invariant_of-self : goal.invariant_of-self
-invariant_of-self g c =
+stays : (g : given.Over) (c : goal.After-remove_failed g)
+    → IsUploads (whole c.self.inside.uuid c.self.inside.sectors c.remove_failed.new.self c.self.inside.window)
+stays g c =
     let own = c.self.inside in
     let e = c.remove_failed.ensures in
     let receipt = g.R.Receipt.state c.args.receipt in
@@ -15,3 +18,9 @@ invariant_of-self g c =
     uploads_changed own.uuid own.sectors own.window own.queue c.remove_failed.new.self c.self.invariant e.rest e.known
     (subst (All (IsNamed own.uuid)) (sym e.receipts)
     (named_with own.uuid number receipt own.queue.receipts named c.self.invariant.known.named))
+
+pub invariant_of-self : goal.invariant_of-self
+invariant_of-self g c = stays g c
+
+pub returns-clause-stays : goal.returns-clause-stays
+returns-clause-stays g c = stays g c

@@ -1,17 +1,26 @@
 use Rattle.std.proofs.Common.{◌≡◌, Some, subst}
 use Rattle.lsvd_names.specs.Names.{numbered_name}
 use Rattle.object_uploads.specs.State.{UploadsState}
+use Rattle.object_uploads.specs.Order.{IsUploads}
 use Rattle.object_uploads.specs.Removal.{IsRemovedNext, TakesRemoval}
 use Rattle.object_uploads.proofs.UploadsKept.{whole}
 use Rattle.object_uploads.proofs.TakenKept.{uploads_without, own_name, removed_next, takes_removal}
+use Rattle.object_uploads.proofs.uploads.Uploads.take_remove.Given as given
 use Rattle.object_uploads.proofs.uploads.Uploads.take_remove.Goals as goal
 
-pub invariant_of-self-2 : goal.invariant_of-self-2
-invariant_of-self-2 g c =
+stays : (g : given.Over) (c : goal.In_ok-receipt g)
+    → IsUploads (whole c.self.inside.uuid c.self.inside.sectors c.take_remove.new.self c.self.inside.window)
+stays g c =
     let own = c.self.inside in
     let e = c.in_ok-receipt.ensures in
     uploads_without own.uuid own.sectors own.window own.queue c.take_remove.new.self c.in_ok-receipt.field-0-0
     (g.R.Receipt.state c.in_ok-receipt.receipt) c.self.invariant e.taken e.known
+
+pub invariant_of-self-2 : goal.invariant_of-self-2
+invariant_of-self-2 g c = stays g c
+
+pub returns-clause-stays : goal.returns-clause-stays
+returns-clause-stays g c = stays g c
 
 pub returns-clause-next : goal.returns-clause-next
 returns-clause-next g c =
