@@ -39,7 +39,7 @@ with_checkpoint plain = record plain {
 }
 
 -- it leaves the frontier's end, and the image up to there
-checkpoint_end : (plain : PlainState) → IsPlainVolume plain → frontier_end (with_checkpoint plain) ≡ frontier_end plain
+pub checkpoint_end : (plain : PlainState) → IsPlainVolume plain → frontier_end (with_checkpoint plain) ≡ frontier_end plain
 checkpoint_end plain valid =
     let object : StreamObject = record { content = Checkpoint; end = end_at (stream_in plain) (last_number (stream_in plain)) } in
     let opened : OpenObject = record {

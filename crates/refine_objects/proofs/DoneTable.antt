@@ -5,7 +5,6 @@ use Rattle.std.specs.Prelude.{nat_eq}
 use Rattle.std.proofs.lemmas.Bool.Decides.{nat_tests}
 use Rattle.std.proofs.lemmas.List.{length-take-le}
 use Rattle.lsvd_objstore.specs.Store.{ReceiptState}
-use Rattle.extent_map.specs.Extents.{IsShortest}
 use Rattle.object_stream.specs.Stream.{Stream, after_objects, owners, is_own, last_number}
 use Rattle.object_stream.specs.Laws.{from_object}
 use Rattle.object_stream.proofs.StreamLemmas.{keeps_owners}
@@ -15,7 +14,6 @@ use Rattle.object_table.specs.Table.{row_of}
 use Rattle.object_table.proofs.Rows.{its_number}
 use Rattle.object_table.proofs.Listed.{found_holds}
 use Rattle.volume_maps.specs.declared.place.ObjectPlace.{ObjectPlace}
-use Rattle.volume_maps.specs.Places.{object_on}
 use Rattle.volume_maps.specs.Maps.{settled_at}
 use Rattle.volume_maps.specs.Laws.{place_owner}
 use Rattle.volume_maps.specs.Live.{live_sectors}
@@ -88,7 +86,6 @@ by_live live count true same unmapped none =
     ] refl
 
 module _ (uploads : UploadsState) (plain : PlainState) (number : ℕ) (is : IsUploads uploads) (valid : IsPlainVolume plain)
-    (shortest : IsShortest object_on uploads.queue.maps.settled.rows)
     (owned : (k : ℕ) → place_owner (settled_at uploads.queue.maps k) ≡ owners (stream_in plain) number k) where
   abbrev checkpoint : PlainCheckpoint
   checkpoint = checkpoint_at number plain
@@ -109,7 +106,7 @@ module _ (uploads : UploadsState) (plain : PlainState) (number : ℕ) (is : IsUp
 
   all_mapped : (n : ℕ) → maps checkpoint n ≡ false → live_sectors n uploads.queue.maps.settled.rows ≡ 0
   all_mapped n unmapped =
-      none_live n uploads.queue.maps.settled.rows shortest (λ k.
+      none_live n uploads.queue.maps.settled.rows is.known.shortest (λ k.
       elim (is_live n (settled_at uploads.queue.maps k)) as (λ b. is_live n (settled_at uploads.queue.maps k) ≡ b → b ≡ false) [
         | true ↦ λ live. (
             let mapped = owns_some n checkpoint.owned k (owner_is n k ∙ live) in
@@ -133,9 +130,8 @@ module _ (uploads : UploadsState) (plain : PlainState) (number : ℕ) (is : IsUp
 -- ---- the put is done
 
 module _ (data_at : ℕ → ℕ) (old new : ObjLogState) (plain : PlainState) (number : ℕ) (bytes : List ℕ) (receipt : ReceiptState)
-    (is : IsUploads old.uploads) (shortest : IsShortest object_on old.uploads.queue.maps.settled.rows)
-    (valid : IsPlainVolume plain) (shows : ShowsBoth data_at old plain) (out : IsOut old.uploads number bytes)
-    (done : IsPutDone number receipt old.uploads new.uploads) where
+    (is : IsUploads old.uploads) (valid : IsPlainVolume plain) (shows : ShowsBoth data_at old plain)
+    (out : IsOut old.uploads number bytes) (done : IsPutDone number receipt old.uploads new.uploads) where
   abbrev queue : QueueState
   queue = old.uploads.queue
 
@@ -182,7 +178,7 @@ module _ (data_at : ℕ → ℕ) (old new : ObjLogState) (plain : PlainState) (n
       rw reached (rw first_at (settle_first plain.checkpoint (checkpoint_at number plain) plain.removed plain.pins queue.frontier
       done.count receipt queue.sealed queue.maps new.uploads.queue.maps first (rw first_at at waits)
       (rw first_at at done.settled.acknowledged) is.waiting (rw first_at at done.settled.maps) at
-      (maps_live old.uploads plain number is valid shortest owned) before))
+      (maps_live old.uploads plain number is valid owned) before))
 
   done_by : (checkpoint : Bool) → is_started_checkpoint number old.uploads.window.objects ≡ checkpoint
       → ShowsTable new.uploads.queue (record plain {
@@ -200,7 +196,7 @@ module _ (data_at : ℕ → ℕ) (old new : ObjLogState) (plain : PlainState) (n
       shown_by_rows new.uploads.queue now (done.settled.removal ∙ shows.table.removal) shows.table.free (data_rows other)
 
 pub done_shows_table : DoneShowsTable
-done_shows_table data_at old new plain number bytes receipt is now shortest valid shows out done =
-    done_by data_at old new plain number bytes receipt is shortest valid shows out done
+done_shows_table data_at old new plain number bytes receipt is now valid shows out done =
+    done_by data_at old new plain number bytes receipt is valid shows out done
     (is_started_checkpoint number plain.window.objects)
     (ap (λ (w : WindowState). is_started_checkpoint number w.objects) shows.objects.window)

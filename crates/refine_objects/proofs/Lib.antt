@@ -1,4 +1,5 @@
 pub mod ShowLemmas
+pub mod FoldedShown
 pub mod FrontierLemmas
 pub mod SealLemmas
 pub mod JobLemmas
@@ -10,3 +11,5 @@ pub mod DoneTable
 pub mod TableChanged
 pub mod CheckpointShown
 pub mod RemovalShown
+pub mod PinsShown
+pub mod NewestShown

@@ -7,12 +7,13 @@ use Rattle.std.proofs.lemmas.Bool.Decides.{nat_tests}
 use Rattle.std.proofs.lemmas.List.Sums.{sum_by-cons, sum_by_push}
 use Rattle.object_stream.specs.Stream.{owners, is_own}
 use Rattle.object_table.specs.declared.row.ObjectRow.{ObjectRow}
-use Rattle.object_table.specs.Table.{TableState, row_of, changed, pinned, unpinned}
+use Rattle.object_table.specs.Table.{TableState, row_of, pinned, unpinned}
 use Rattle.volume_maps.specs.declared.place.ObjectPlace.{ObjectPlace}
 use Rattle.volume_maps.specs.Maps.{MapsState, settled_at}
 use Rattle.volume_maps.specs.Laws.{place_owner}
 use Rattle.volume_maps.proofs.LossLemmas.{known_at}
 use Rattle.object_uploads.specs.Order.{IsDeadIn}
+use Rattle.object_uploads.proofs.PinsOf.{row_changed}
 use Rattle.object_uploads.proofs.RemovalImage.{pins_keep_image, dead_is_apart}
 use Rattle.plain_disk.specs.Writers.{covers_sector}
 use Rattle.plain_disk.specs.State.{PlainState, PlainCheckpoint, stream_in, frontier_of, logged_entries}
@@ -52,7 +53,7 @@ times_of true number pin other pins = refl
 times_of false number pin other pins = sum_by-cons (λ p. cond (p == other) 1 0) pin (without_pin number pins)
 
 -- one pin less
-unpinned_less : (number other : ℕ) (pins : List ℕ)
+pub unpinned_less : (number other : ℕ) (pins : List ℕ)
     → times_pinned other (without_pin number pins) ≡ times_pinned other pins - cond (number == other) 1 0
 unpinned_less number other [] = grind (arith, nat_tests)
 unpinned_less number other (pin ∷ pins) =
@@ -64,19 +65,6 @@ unpinned_less number other (pin ∷ pins) =
     ∙ less_by (pin == number) (number == other) (pin == other) (times_pinned other pins) (times_pinned other (pin ∷ pins))
     (times_pinned other (without_pin number pins)) (sum_by-cons (λ p. cond (p == other) 1 0) pin pins) same apart
     (unpinned_less number other pins)
-
--- ---- rows
-
--- the row of a number after the one of another was changed, which keeps its number
-pins_changed : (change : ObjectRow → ObjectRow) (number other : ℕ) (rows : List ObjectRow)
-    → ((row : ObjectRow) → (change row).number ≡ row.number)
-    → row_of other (changed change number rows)
-    ≡ cond (number == other) (option_map change (row_of other rows)) (row_of other rows)
-pins_changed change number other [] keeps = grind (arith, nat_tests)
-pins_changed change number other (row ∷ rows) keeps =
-    let rest = pins_changed change number other rows keeps in
-    let own = keeps row in
-    grind (arith, nat_tests, rest, own)
 
 -- ---- what a row shows
 
@@ -179,7 +167,7 @@ pinned_shows_pin data_at old new plain number k was now valid shows reads change
       reached = omega (arith, rows.reached, changed_pins.rest.frontier);
       gone = shows.table.gone;
       rows_show = λ n.
-          rw (rows_are, changed_pins.rest.frontier, pins_changed pinned number n queue.maps.objects.rows (λ row. refl))
+          rw (rows_are, changed_pins.rest.frontier, row_changed pinned number n queue.maps.objects.rows (λ row. refl))
           (row_pinned plain.checkpoint plain.removed plain.pins queue.frontier number (number == n) n
           (row_of n queue.maps.objects.rows) refl
           (λ same. subst (λ m. IsSome (row_of m queue.maps.objects.rows)) (same_number number n same) there)
@@ -217,7 +205,7 @@ unpinned_shows_unpin data_at old new plain number was shows changed_pins batch =
       reached = omega (arith, rows.reached, changed_pins.rest.frontier);
       gone = shows.table.gone;
       rows_show = λ n.
-          rw (rows_are, changed_pins.rest.frontier, pins_changed unpinned number n queue.maps.objects.rows (λ row. refl))
+          rw (rows_are, changed_pins.rest.frontier, row_changed unpinned number n queue.maps.objects.rows (λ row. refl))
           (row_unpinned plain.checkpoint plain.removed plain.pins queue.frontier number (number == n) n
           (row_of n queue.maps.objects.rows) refl (rows.rows_show n));
     } in

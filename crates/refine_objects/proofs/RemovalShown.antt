@@ -14,6 +14,7 @@ use Rattle.object_table.specs.Table.{TableState, has_number, row_of, numbers, wi
 use Rattle.object_table.specs.Lists.{Climbs}
 use Rattle.object_table.proofs.Rows.{found_above}
 use Rattle.object_uploads.specs.State.{UploadsState}
+use Rattle.object_uploads.specs.Queue.{pins_of}
 use Rattle.object_uploads.specs.Order.{IsDeadIn, IsUploads}
 use Rattle.object_uploads.specs.Removal.{IsRemovedNext}
 use Rattle.object_uploads.proofs.RemovalImage.{removals_keep_image}
@@ -22,7 +23,7 @@ use Rattle.plain_disk.specs.declared.event.PlainReply.TheVariants.{Removed, Give
 use Rattle.plain_disk.specs.State.{PlainState, PlainCheckpoint}
 use Rattle.plain_disk.specs.Removals.{maps, has, is_removable, to_remove, reply_of_removal, with_removal, is_out}
 use Rattle.plain_disk.proofs.CheckpointLemmas.{both_true, same_number}
-use Rattle.refine_objects.specs.Table.{times_pinned, pins_of, passes_unmapped, ShowsTable}
+use Rattle.refine_objects.specs.Table.{times_pinned, passes_unmapped, ShowsTable}
 use Rattle.refine_objects.specs.TableLaws.{ShowsBoth, TakenShowsRemoval, NoneTakenShowsNone, FinishedShowsRemoved}
 use Rattle.refine_objects.specs.TableLaws.{TakenBackShowsGivenBack, NotOutShowsNothing}
 use Rattle.refine_objects.proofs.TableRows.{RowShows, RowsShow, rows_of_shown, shown_by_rows}
@@ -37,7 +38,7 @@ not_among true rest all count is none more = absurd (omega (arith, is, none))
 not_among false rest all count is none more = more (omega (arith, is, none))
 
 -- what has no pin is not among the pins
-not_pinned : (number : ℕ) (pins : List ℕ) → times_pinned number pins ≡ 0 → has pins number ≡ false
+pub not_pinned : (number : ℕ) (pins : List ℕ) → times_pinned number pins ≡ 0 → has pins number ≡ false
 not_pinned number [] none = refl
 not_pinned number (pin ∷ pins) none =
     not_among (pin == number) (has pins number) (times_pinned number (pin ∷ pins)) (times_pinned number pins)
@@ -49,7 +50,7 @@ none_among : (test rest : Bool) (all count : ℕ) → all ≡ cond test 1 0 + co
 none_among true rest all count is none more = absurd cc
 none_among false rest all count is none more = omega (arith, is, more none)
 
-no_pins : (number : ℕ) (pins : List ℕ) → has pins number ≡ false → times_pinned number pins ≡ 0
+pub no_pins : (number : ℕ) (pins : List ℕ) → has pins number ≡ false → times_pinned number pins ≡ 0
 no_pins number [] none = refl
 no_pins number (pin ∷ pins) none =
     none_among (pin == number) (has pins number) (times_pinned number (pin ∷ pins)) (times_pinned number pins)

@@ -6,9 +6,10 @@ use Rattle.std.proofs.lemmas.Bool.Decides.{nat_tests}
 use Rattle.std.proofs.lemmas.List.Elements.{All-nil}
 use Rattle.object_table.specs.Table.{TableState, row_of, new_row}
 use Rattle.object_uploads.specs.State.{QueueState}
+use Rattle.object_uploads.specs.Queue.{pins_of}
 use Rattle.plain_disk.specs.State.{PlainState, PlainCheckpoint}
 use Rattle.plain_disk.specs.Objects.{is_busy, has_unsealed, after_seal}
-use Rattle.refine_objects.specs.Table.{pins_of, passes_unmapped, ShowsTable}
+use Rattle.refine_objects.specs.Table.{passes_unmapped, ShowsTable}
 use Rattle.refine_objects.specs.TableLaws.{NewTableShowsCreated, TableShownWithOtherCache, RoomShowsSameTable, AddedShowsTable}
 use Rattle.refine_objects.specs.TableLaws.{SealedShowsTable, TakenShowsTable, FailedShowsTable}
 use Rattle.refine_objects.proofs.SealLemmas.{with_sealed}

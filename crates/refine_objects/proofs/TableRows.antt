@@ -12,11 +12,12 @@ use Rattle.object_table.proofs.Rows.{its_number}
 use Rattle.object_table.proofs.Listed.{found_holds}
 use Rattle.volume_maps.specs.Live.{but_live, HasSameObjects}
 use Rattle.object_uploads.specs.State.{QueueState, UploadsState}
+use Rattle.object_uploads.specs.Queue.{pins_of}
 use Rattle.object_uploads.specs.Order.{IsUploads}
 use Rattle.object_uploads.proofs.DeadRows.{row_through}
 use Rattle.plain_disk.specs.State.{PlainState, PlainCheckpoint}
 use Rattle.plain_disk.specs.Removals.{maps, has}
-use Rattle.refine_objects.specs.Table.{times_pinned, pins_of, passes_unmapped, ShowsTable}
+use Rattle.refine_objects.specs.Table.{times_pinned, passes_unmapped, ShowsTable}
 
 -- ---- the row of a number
 

@@ -1,17 +1,21 @@
 -- Contract: each call of the list does what the plain volume does.
-use Rattle.std.specs.Prelude.{◌≡◌, ℕ, ◌+◌, ◌<◌, ◌≤◌, IsTrue, Some, true, false, List, [], ◌∷◌, ◌++◌, length}
+use Rattle.std.specs.Prelude.{◌≡◌, ℕ, ◌+◌, ◌<◌, ◌≤◌, IsTrue, Some, IfSome, true, false, List, [], ◌∷◌, ◌++◌, length}
 use Rattle.lsvd_base.specs.declared.entry.Entry.{Entry}
 use Rattle.lsvd_base.specs.declared.geometry.Geometry.{Geometry}
 use Rattle.lsvd_base.specs.Limits.{is_within_limits}
 use Rattle.lsvd_objstore.specs.Store.{ReceiptState}
 use Rattle.upload_window.specs.Window.{lowest_ready, is_started}
+use Rattle.volume_maps.specs.declared.place.ObjectPlace.{ObjectPlace}
+use Rattle.volume_maps.specs.Maps.{settled_at}
 use Rattle.object_uploads.specs.Order.{IsUploads}
 use Rattle.object_uploads.specs.Image.{IsReceiptFor}
 use Rattle.object_uploads.specs.Changes.{with_job, IsOut, IsPutDone}
+use Rattle.object_uploads.specs.Stream.{IsPlacedIn}
 use Rattle.obj_log.specs.State.{ObjLogState}
 use Rattle.obj_log.specs.Changes.{IsSame, IsAdded, HasSealedObject}
 use Rattle.plain_disk.specs.Cache.{PlainCache}
-use Rattle.plain_disk.specs.State.{PlainState, created_volume, history_length, frontier_of, frontier_end, unsealed_entries}
+use Rattle.plain_disk.specs.State.{PlainState, created_volume, stream_in, history_length, frontier_of, frontier_end}
+use Rattle.plain_disk.specs.State.{unsealed_entries, folded_to}
 use Rattle.plain_disk.specs.Objects.{seal_reply, after_seal, after_take, after_done, after_failed}
 use Rattle.plain_disk.specs.declared.event.PlainReply.TheVariants.{Sealed, Nothing, Busy}
 use Rattle.plain_disk.specs.Valid.{IsPlainVolume}
@@ -55,6 +59,17 @@ ShownWithOtherPlaces =
     (data_at other : ℕ → ℕ) (objects : ObjLogState) (plain : PlainState)
     → ((seq : ℕ) → objects.uploads.queue.end ≤ seq → seq < history_length plain → other seq ≡ data_at seq)
     → ShowsObjects data_at objects plain → ShowsObjects other objects plain
+
+-- A list that shows what a plain volume becomes when the entries of its first objects are folded into its image, up to one that
+-- is not past the frontier, and of which no object is on its way, shows that plain volume, if its map has the sectors of those
+-- objects where they have them.
+abbrev pub ShownFromFirst : Type 0
+ShownFromFirst =
+    (data_at : ℕ → ℕ) (list : ObjLogState) (plain : PlainState) (number : ℕ)
+    → IsPlainVolume plain → plain.number ≤ number → number ≤ frontier_of plain → list.uploads.queue.sealed ≡ []
+    → ((k : ℕ) → IfSome (settled_at list.uploads.queue.maps k) (λ (place : ObjectPlace).
+    place.number ≤ number → IsPlacedIn (stream_in plain) k place))
+    → ShowsObjects data_at list (folded_to number plain) → ShowsObjects data_at list plain
 
 -- ---- the calls
 

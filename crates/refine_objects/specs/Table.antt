@@ -1,22 +1,17 @@
 -- Contract: what the table of a list's objects means: which objects of the plain volume stand in the store, how often each is
 -- pinned, and which of them its newest acknowledged checkpoint maps.
-use Rattle.std.specs.Prelude.{◌≡◌, ℕ, ◌<◌, ◌≤◌, ◌==◌, ◌&&◌, Bool, not, nat_lt, is_some, Option, Some, None, IfSome, List}
+use Rattle.std.specs.Prelude.{◌≡◌, ℕ, ◌<◌, ◌≤◌, ◌==◌, ◌&&◌, Bool, not, nat_lt, is_some, IfSome, List}
 use Rattle.std.specs.Prelude.{count_by}
 use Rattle.std.specs.List.{All}
-use Rattle.object_table.specs.declared.row.ObjectRow.{ObjectRow}
 use Rattle.object_table.specs.Table.{row_of}
 use Rattle.object_uploads.specs.State.{QueueState}
+use Rattle.object_uploads.specs.Queue.{pins_of}
 use Rattle.plain_disk.specs.State.{PlainState, PlainCheckpoint}
 use Rattle.plain_disk.specs.Removals.{maps, has}
 
 -- how often a number is among the pins of plans
 abbrev pub times_pinned : (number : ℕ) → (pins : List ℕ) → ℕ
 times_pinned number pins = count_by (λ pin. pin == number) pins
-
--- the pins that are on the object of a row, none on one that is not in the table
-abbrev pub pins_of : Option ObjectRow → ℕ
-pins_of None = 0
-pins_of (Some row) = row.pins
 
 -- a checkpoint came after the object of a number, and does not map it
 abbrev pub passes_unmapped : PlainCheckpoint → (number : ℕ) → Bool

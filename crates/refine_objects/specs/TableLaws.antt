@@ -1,23 +1,26 @@
 -- Contract: seals of checkpoints, removals and pins do to the list what they do to the plain volume, and each other call keeps
 -- what the table shows.
-use Rattle.std.specs.Prelude.{◌≡◌, ℕ, ◌+◌, true, false, Some, None, List, [], ◌∷◌, ◌++◌, length}
+use Rattle.std.specs.Prelude.{◌≡◌, ◌↔◌, ℕ, ◌+◌, ◌<◌, true, false, Some, None, List, [], ◌∷◌, ◌++◌, length}
+use Rattle.std.specs.List.{All}
+use Rattle.std.specs.List.Sorted.{IsStrictlyIncreasing}
 use Rattle.lsvd_base.specs.declared.entry.Entry.{Entry}
 use Rattle.lsvd_base.specs.declared.geometry.Geometry.{Geometry}
 use Rattle.lsvd_objstore.specs.Store.{ReceiptState}
-use Rattle.extent_map.specs.Extents.{IsShortest}
-use Rattle.object_table.specs.Table.{new_row, pinned, unpinned}
-use Rattle.volume_maps.specs.Places.{object_on}
+use Rattle.object_table.specs.Table.{row_of, new_row, pinned, unpinned}
 use Rattle.object_uploads.specs.State.{QueueState, UploadsState}
+use Rattle.object_uploads.specs.Queue.{pins_of, newest_checkpoint}
 use Rattle.object_uploads.specs.Order.{IsUploads}
 use Rattle.object_uploads.specs.Changes.{with_job, IsOut, IsPutDone}
 use Rattle.object_uploads.specs.Checkpoint.{HasSealedCheckpoint}
-use Rattle.object_uploads.specs.Removal.{IsRemovedNext, HasChangedPins, TakesRemoval, FinishesRemoval, TakesBackRemoval}
+use Rattle.object_uploads.specs.Removal.{IsRemovedNext, HasChangedPins, PinsEach, UnpinsEach, TakesRemoval, FinishesRemoval}
+use Rattle.object_uploads.specs.Removal.{TakesBackRemoval}
 use Rattle.obj_log.specs.State.{ObjLogState}
 use Rattle.obj_log.specs.Changes.{IsSame, IsAdded, HasSealedObject}
 use Rattle.plain_disk.specs.declared.event.PlainReply.TheVariants.{Sealed, Busy, Nothing, Removing, Removed, GivenBack}
 use Rattle.plain_disk.specs.Cache.{PlainCache}
 use Rattle.plain_disk.specs.State.{PlainState, created_volume}
-use Rattle.plain_disk.specs.Reads.{unpinned as without_pin, is_read_from}
+use Rattle.plain_disk.specs.Checkpoints.{sealed_checkpoint}
+use Rattle.plain_disk.specs.Reads.{unpinned as without_pin, is_read_from, are_pinned, without_pins}
 use Rattle.plain_disk.specs.Objects.{after_seal, after_take, after_done, after_failed}
 use Rattle.plain_disk.specs.Objects.{seal_checkpoint_reply, after_seal_checkpoint}
 use Rattle.plain_disk.specs.Removals.{take_remove_reply, after_take_remove, remove_done_reply, after_remove_done}
@@ -73,14 +76,13 @@ FailedShowsTable =
     (uploads : UploadsState) (plain : PlainState) (number : ℕ) → ShowsTable uploads.queue plain
     → ShowsTable (with_job number false uploads).queue (after_failed (Some number) plain)
 
--- A put is done: what is settled comes into the table, and a checkpoint is the newest acknowledged one from then on. The rows of
--- the objects' map do not overlap: so an object has a live sector just where a place is in it.
+-- A put is done: what is settled comes into the table, and a checkpoint is the newest acknowledged one from then on. The objects'
+-- map is its shortest list of rows, which do not overlap: so an object has a live sector just where a place is in it.
 abbrev pub DoneShowsTable : Type 0
 DoneShowsTable =
     (data_at : ℕ → ℕ) (old new : ObjLogState) (plain : PlainState) (number : ℕ) (bytes : List ℕ) (receipt : ReceiptState)
-    → IsUploads old.uploads → IsUploads new.uploads → IsShortest object_on old.uploads.queue.maps.settled.rows
-    → IsPlainVolume plain → ShowsBoth data_at old plain → IsOut old.uploads number bytes
-    → IsPutDone number receipt old.uploads new.uploads
+    → IsUploads old.uploads → IsUploads new.uploads → IsPlainVolume plain → ShowsBoth data_at old plain
+    → IsOut old.uploads number bytes → IsPutDone number receipt old.uploads new.uploads
     → ShowsTable new.uploads.queue (after_done (Some number) plain)
 
 -- ---- checkpoints
@@ -99,6 +101,13 @@ RefusedSealCheckpointShowsNone =
     (data_at : ℕ → ℕ) (objects : ObjLogState) (plain : PlainState) → ShowsObjects data_at objects plain
     → length objects.uploads.window.objects ≡ 16
     → (seal_checkpoint_reply plain ≡ Busy) × (after_seal_checkpoint plain ≡ plain)
+
+-- the newest checkpoint that was sealed is the plain volume's
+abbrev pub NewestIsShown : Type 0
+NewestIsShown =
+    (data_at : ℕ → ℕ) (list : ObjLogState) (plain : PlainState)
+    → IsUploads list.uploads → IsPlainVolume plain → ShowsBoth data_at list plain
+    → newest_checkpoint list.uploads.queue ≡ (sealed_checkpoint plain).number
 
 -- ---- removals
 
@@ -157,3 +166,26 @@ UnpinnedShowsUnpin =
     → IsUploads old.uploads → ShowsBoth data_at old plain
     → HasChangedPins unpinned number old.uploads new.uploads → new.batch ≡ old.batch
     → ShowsBoth data_at new (record plain { pins = without_pin number plain.pins })
+
+-- the objects of a plan are pinned, one after the other, each of which a sector is read from
+abbrev pub PinnedEachShowPins : Type 0
+PinnedEachShowPins =
+    (data_at : ℕ → ℕ) (old new : ObjLogState) (plain : PlainState) (numbers : List ℕ)
+    → IsUploads old.uploads → IsPlainVolume plain → ShowsBoth data_at old plain
+    → All (λ number. (k : ℕ) × (is_read_from plain number k ≡ true)) numbers
+    → PinsEach numbers old.uploads new.uploads → new.batch ≡ old.batch
+    → ShowsBoth data_at new (record plain { pins = plain.pins ++ numbers })
+
+-- and one pin of each is given back
+abbrev pub UnpinnedEachShowUnpins : Type 0
+UnpinnedEachShowUnpins =
+    (data_at : ℕ → ℕ) (old new : ObjLogState) (plain : PlainState) (numbers : List ℕ)
+    → IsUploads old.uploads → ShowsBoth data_at old plain
+    → UnpinsEach numbers old.uploads new.uploads → new.batch ≡ old.batch
+    → ShowsBoth data_at new (record plain { pins = without_pins numbers plain.pins })
+
+-- the objects of a plan are pinned in the table just where the plain volume has them pinned
+abbrev pub PinnedAreShown : Type 0
+PinnedAreShown =
+    (queue : QueueState) (plain : PlainState) (numbers : List ℕ) → ShowsTable queue plain → IsStrictlyIncreasing numbers
+    → All (λ number. 0 < pins_of (row_of number queue.maps.objects.rows)) numbers ↔ (are_pinned numbers plain.pins ≡ true)

@@ -5,6 +5,8 @@ ghost use Rattle.refine_objects.specs.TableLaws.{SealedShowsSealCheckpoint, Refu
 ghost use Rattle.refine_objects.specs.TableLaws.{TakenShowsRemoval, NoneTakenShowsNone, FinishedShowsRemoved};
 ghost use Rattle.refine_objects.specs.TableLaws.{TakenBackShowsGivenBack, NotOutShowsNothing};
 ghost use Rattle.refine_objects.specs.TableLaws.{PinnedShowsPin, UnpinnedShowsUnpin};
+ghost use Rattle.refine_objects.specs.TableLaws.{PinnedEachShowPins, UnpinnedEachShowUnpins};
+ghost use Rattle.refine_objects.specs.TableLaws.{PinnedAreShown, NewestIsShown};
 
 /// A law: the table of a volume that was just created shows it, and each call of the list that seals no
 /// checkpoint and removes and pins nothing keeps what the table shows.
@@ -24,6 +26,7 @@ pub fn calls_keep_what_the_table_shows()
 pub fn checkpoints_and_removals_show_the_plain_volume_s()
     ensures checkpoint { SealedShowsSealCheckpoint }
     ensures busy { RefusedSealCheckpointShowsNone }
+    ensures newest { NewestIsShown }
     ensures removal { TakenShowsRemoval }
     ensures none { NoneTakenShowsNone }
     ensures removed { FinishedShowsRemoved }
@@ -31,4 +34,7 @@ pub fn checkpoints_and_removals_show_the_plain_volume_s()
     ensures not_out { NotOutShowsNothing }
     ensures pinned { PinnedShowsPin }
     ensures unpinned { UnpinnedShowsUnpin }
+    ensures pinned_each { PinnedEachShowPins }
+    ensures unpinned_each { UnpinnedEachShowUnpins }
+    ensures are_pinned { PinnedAreShown }
 {}
