@@ -2,7 +2,7 @@
 use Rattle.std.proofs.Common.{◌≡◌, ℕ, ◌<◌, ◌≤◌, Option, Some, None, List, [], ◌∷◌, ◌++◌, map, refl, sym, ◌∙◌, ap, subst, arith}
 use Rattle.std.specs.Prelude.{IfSome, option_map}
 use Rattle.std.specs.Option.{IsSome}
-use Rattle.std.specs.List.{AllZip, AllByRecursion, Contains}
+use Rattle.std.specs.List.{All, AllZip, AllByRecursion, Contains}
 use Rattle.std.proofs.lemmas.List.Elements.{All-contains}
 use Rattle.batcher.specs.State.{BatchState}
 use Rattle.lsvd_base.specs.declared.geometry.Geometry.{Geometry}
@@ -17,20 +17,23 @@ use Rattle.ckpt_format.specs.Places.{stored_on}
 use Rattle.ckpt_format.specs.Rows.{AllMayStand}
 use Rattle.ckpt_format.specs.Checkpoint.{IsCheckpoint}
 use Rattle.stopped_volume.specs.Expected.{expected_alone}
+use Rattle.stopped_volume.specs.Opening.{owned_by, IsCheckpointOf}
 use Rattle.volume_maps.specs.Places.{log_on}
 use Rattle.object_uploads.specs.State.{SealedState}
 use Rattle.object_uploads.specs.Image.{IsReceiptFor}
 use Rattle.object_uploads.specs.Order.{IsUploads}
 use Rattle.object_uploads.specs.Opening.{IsSameButFound, HasBegun}
 use Rattle.obj_log.specs.State.{ObjLogState}
-use Rattle.object_recovery.specs.Checkpoints.{expected_of, ReadCheckpoint}
+use Rattle.object_recovery.specs.Checkpoints.{expected_of, ReadCheckpoint, IsStoredCheckpoint}
 use Rattle.object_recovery.specs.Missing.{IsMissing}
 use Rattle.object_recovery.specs.Earlier.{EarlierObject, AreEarlier, AreAllEarlier, IsReached, ReachedBy, ReachAll}
 use Rattle.object_recovery.specs.Earlier.{AreSameObjects, NamesNone}
-use Rattle.object_recovery.specs.Beginning.{HasValue, BeginsList, LacksReach, IsTakenUp, HasTakenUp, HasRows}
+use Rattle.object_recovery.specs.Beginning.{HasValue, BeginsList, BeginsInStore, LacksReach, IsTakenUp, HasTakenUp, HasRows}
 use Rattle.object_recovery.specs.Recovery.{IsListUpTo}
+use Rattle.object_recovery.specs.Table.{HasTableFrom}
+use Rattle.object_recovery.proofs.BegunTable.{ListsTable, knows, named_there}
 use Rattle.object_recovery.proofs.EarlierLemmas.{all_earlier_same}
-use Rattle.object_recovery.proofs.BegunLemmas.{list_same, HasBegunWith, rows_begun, all_begun, places_inside, owners_are}
+use Rattle.object_recovery.proofs.BegunLemmas.{HasBegunWith, places_inside, owners_are}
 use Rattle.object_recovery.proofs.ValueLemmas.{has_image, absent_missing, lacking_missing}
 
 -- rows of a checkpoint may stand
@@ -113,18 +116,43 @@ module _ (uuid : List ℕ) (geometry : Geometry) (checkpoint : ReadCheckpoint) (
     (reach : (k : ℕ) (place : StoredPlace) → place_at stored_on rows k ≡ Some place → IsReached earlier place)
     (begun : HasBegunWith (expected_of uuid geometry) earlier rows log.uploads.queue)
     (list : IsListUpTo uuid geometry checkpoint.number checkpoint.end log) where
-  pub begins_list : IsUploads log.uploads → BeginsList uuid geometry checkpoint rows log
-  begins_list order = record {
+  pub begins_list : IsUploads log.uploads → HasTableFrom checkpoint.number log.uploads.queue
+      → BeginsList uuid geometry checkpoint rows log
+  begins_list order table = record {
     list = list;
     order = order;
     places = places_inside uuid geometry checkpoint.number earlier rows log.uploads.queue stand reach begun;
     owners_are = owners_are uuid geometry checkpoint.number earlier rows log.uploads.queue stand reach begun;
+    table = table;
   }
 
-  pub has_value : (objects : Objects) → AreAllEarlier uuid objects checkpoint.number earlier
+  has_value : (objects : Objects) → AreAllEarlier uuid objects checkpoint.number earlier
       → HasValue (expected_of uuid geometry) objects rows log
   has_value objects all uuid_at image own hold value = (
     has_image uuid geometry checkpoint.number earlier rows log.uploads.queue stand reach begun objects all.stored uuid_at image
         own hold value,
     subst (AllByRecursion (λ (sealed : SealedState). IfSome sealed.receipt (IsReceiptFor sealed.bytes))) (sym list.sealed) tt,
   )
+
+  -- so it is where the store tells its objects
+  pub begins_in_store : IsUploads log.uploads → ListsTable checkpoint.number earlier log.uploads.queue
+      → IsCheckpoint checkpoint.bytes (expected_alone (expected_of uuid geometry) checkpoint.number) checkpoint.end rows
+      → All (λ (e : EarlierObject). IsSome e.receipt.told) earlier → (objects : Objects)
+      → AreAllEarlier uuid objects checkpoint.number earlier → IsStoredCheckpoint (expected_of uuid geometry) objects checkpoint
+      → BeginsInStore (expected_of uuid geometry) objects checkpoint.number rows log
+  begins_in_store order lists is tells objects all stored =
+      let number = checkpoint.number in
+      let queue = log.uploads.queue in
+      let of_store : IsCheckpointOf (expected_of uuid geometry) objects number checkpoint.end (owned_by rows) = record {
+        bytes = checkpoint.bytes;
+        present = stored.present;
+        rows = rows;
+        is_checkpoint = is;
+        says = λ k. refl;
+      } in
+      record {
+        value = has_value objects all;
+        knows = knows uuid geometry number checkpoint.end earlier rows log objects begun lists list.frontier order
+            (owners_are uuid geometry number earlier rows queue stand reach begun) all of_store refl;
+        named = named_there uuid geometry number earlier rows queue stand reach begun objects all.stored tells;
+      }

@@ -7,10 +7,11 @@ pub mod TakenLemmas
 pub mod PartLemmas
 pub mod RowLemmas
 pub mod MappedLemmas
+pub mod TakenLists
+pub mod StoredObjects
 pub mod BegunLemmas
 pub mod ValueLemmas
 pub mod FinderLemmas
-pub mod BeginLemmas
 pub mod RemovalLemmas
 pub mod AdoptionLemmas
 pub mod JudgeLemmas
@@ -18,7 +19,10 @@ pub mod PastLemmas
 pub mod StreamLemmas
 pub mod ListLemmas
 pub mod PlaceLemmas
+pub mod TableLemmas
 pub mod RecoverLemmas
+pub mod BegunTable
+pub mod BeginLemmas
 pub mod RefusalLemmas
 pub mod OutcomeLemmas
 pub mod GreatestLemmas

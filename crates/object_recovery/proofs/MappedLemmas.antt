@@ -12,7 +12,8 @@ use Rattle.volume_maps.proofs.TableLemmas.{still_gains}
 use Rattle.object_uploads.specs.State.{UploadsState}
 use Rattle.object_uploads.specs.Opening.{IsSameButFound, HasMapped}
 use Rattle.obj_log.specs.State.{ObjLogState}
-use Rattle.object_recovery.specs.Beginning.{mapped_place, MayMap, HasRows}
+use Rattle.object_recovery.specs.Beginning.{MayMap, HasRows}
+use Rattle.object_uploads.specs.Checkpoint.{mapped_place}
 use Rattle.object_recovery.proofs.EarlierLemmas.{place_kept, last_place}
 use Rattle.object_recovery.proofs.RowLemmas.{map_more}
 

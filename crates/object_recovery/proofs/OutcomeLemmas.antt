@@ -24,13 +24,14 @@ use Rattle.object_recovery.specs.declared.error.RecoverError.{RecoverError}
 use Rattle.object_recovery.specs.declared.judging.Reached.{Reached}
 use Rattle.object_recovery.specs.declared.judging.ObjectRefusal.{ObjectRefusal}
 use Rattle.object_recovery.specs.declared.judging.ObjectRefusal.TheVariants as refusals
-use Rattle.object_recovery.specs.Beginning.{HasValue, BeginsList}
+use Rattle.object_recovery.specs.Beginning.{BeginsList, BeginsInStore}
 use Rattle.object_recovery.specs.Checkpoints.{expected_of, ReadCheckpoint, IsStoredCheckpoint, IsNewest, IsNewestWithEnd}
 use Rattle.object_recovery.specs.declared.error.RecoverError.TheVariants as errors
 use Rattle.object_recovery.specs.Faults.{of_store, of_refusal, refusal_or_missing, is_store_fault, IsNoAnswer}
 use Rattle.object_recovery.specs.Judging.{IsRun}
 use Rattle.object_recovery.specs.Judged.{IsVerdict, IsReached, IsGap, GoesToGap, JudgesPast, StaysRefused}
-use Rattle.object_recovery.specs.Adoption.{IsWhyLeft, HasEndedAt, KeepsGood, reached_by, ReachesGap, JudgesRest, RefusesRest}
+use Rattle.object_recovery.specs.Adoption.{IsWhyLeft, HasEndedAt, KeepsGood, KeepsKnown, reached_by, ReachesGap, JudgesRest}
+use Rattle.object_recovery.specs.Adoption.{RefusesRest}
 use Rattle.object_recovery.specs.Adoption.{IsRecoveryBegun, RefusesBeside, HasGoneOn, GoesOnWith, StopsWith}
 use Rattle.object_recovery.specs.Adoption.{GoesOnOf, RecoverListOf}
 use Rattle.object_recovery.specs.Missing.{IsMissing}
@@ -38,9 +39,10 @@ use Rattle.object_recovery.specs.Places.{HasPlacesInside}
 use Rattle.object_recovery.specs.Recovery.{IsListUpTo, KeepsStreams, AreAllGood, AreNamedWholePast, IsWhyObjectsRefused}
 use Rattle.object_recovery.specs.Recovery.{IsRefusal, IsRecoveryRefused}
 use Rattle.object_recovery.specs.Recovering.{Recovers}
+use Rattle.object_recovery.specs.Table.{AreNamedThere}
 use Rattle.object_recovery.proofs.EndLemmas.{alone_object}
 use Rattle.object_recovery.proofs.ListLemmas.{left_good}
-use Rattle.object_recovery.proofs.RecoverLemmas.{IsBegun, stream_to, is_recovered}
+use Rattle.object_recovery.proofs.RecoverLemmas.{IsBegun, one_reading, stream_to, is_recovered}
 use Rattle.object_recovery.proofs.RefusalLemmas.{volume_is, is_refused, no_answer_refused}
 
 -- all objects past a checkpoint were judged
@@ -225,9 +227,9 @@ module _ (uuid : List ℕ) (geometry : Geometry) (base : ReadCheckpoint) (rows :
   -- ---- where a list begins with them
 
   -- what the list has once it has begun, where the store tells its objects
-  abbrev pub HasValueOf : ObjLogState → Objects → Type 0
-  HasValueOf begun objects = Lists uuid objects names → IsStoredCheckpoint volume objects base
-      → HasValue volume objects rows begun
+  abbrev pub BeginsAsStored : ObjLogState → Objects → Type 0
+  BeginsAsStored begun objects = Lists uuid objects names → IsStoredCheckpoint volume objects base
+      → BeginsInStore volume objects base.number rows begun
 
   -- a list that goes on is one of the same uuid and the same sizes
   list_after : (begun log : ObjLogState) → BeginsList uuid geometry base rows begun
@@ -239,7 +241,7 @@ module _ (uuid : List ℕ) (geometry : Geometry) (base : ReadCheckpoint) (rows :
       begins.list.geometry_is list)
 
   module _ (begun log : ObjLogState) (begins : BeginsList uuid geometry base rows begun) (objects : Objects)
-      (value : HasValueOf begun objects) (left : Option Reached) (gone : HasGoneOn objects begun log left)
+      (of_store : BeginsAsStored begun objects) (left : Option Reached) (gone : HasGoneOn objects begun log left)
       (from : IsRecoveryBegun uuid geometry base names objects) where
     list : IsListUpTo uuid geometry log.uploads.window.last log.uploads.queue.end log
     list = list_after begun log begins gone.list
@@ -258,11 +260,14 @@ module _ (uuid : List ℕ) (geometry : Geometry) (base : ReadCheckpoint) (rows :
       list = begins.list;
       order = begins.order;
       owners_are = begins.owners_are;
-      value = value from.listed from.stored;
+      value = (of_store from.listed from.stored).value;
     }
 
     kept : KeepsStreams volume objects begun log
     kept = subst (λ v. KeepsStreams v objects begun log) begun_volume gone.streams
+
+    kept_known : KeepsKnown volume objects begun log
+    kept_known = subst (λ v. KeepsKnown v objects begun log) begun_volume gone.knows
 
     log_reached : IsReached volume objects base.number (reached_by log)
     log_reached =
@@ -288,6 +293,11 @@ module _ (uuid : List ℕ) (geometry : Geometry) (base : ReadCheckpoint) (rows :
       landed = log_reached.landed;
       good = all_good volume objects base.number (judged None rest);
       past = whole_past volume objects base.number log.uploads.window.last log_reached.from (judged None rest);
+      knows = kept_known base.number (omega (arith, begins.list.frontier)) (of_store from.listed from.stored).knows;
+      named = λ end owned checkpoint.
+          let one = one_reading volume objects base.number base.number base.end end (owned_by rows) owned refl newest.is
+          checkpoint in
+          subst (AreNamedThere volume objects) (sym one.1) (of_store from.listed from.stored).named;
     }
 
     refuses : (error : RecoverError) → RefusesRest objects log names left error → IsRecoveryRefused volume objects error
@@ -303,44 +313,46 @@ module _ (uuid : List ℕ) (geometry : Geometry) (base : ReadCheckpoint) (rows :
   -- ---- where the store tells its objects
 
   module _ (begun : ObjLogState) (begins : BeginsList uuid geometry base rows begun) where
-    told_recovers : (told : Option Objects) (log : ObjLogState) → IfSome told (HasValueOf begun)
+    told_recovers : (told : Option Objects) (log : ObjLogState) → IfSome told (BeginsAsStored begun)
         → IfSome told (λ objects. GoesOnWith objects names begun log)
         → IfSome told (λ objects. IsRecoveryBegun uuid geometry base names objects → Recovers volume base.number objects log)
-    told_recovers None log value goes = tt
-    told_recovers (Some objects) log value goes = λ from. recovers begun log begins objects value goes.0 goes.1 from goes.2
+    told_recovers None log of_store goes = tt
+    told_recovers (Some objects) log of_store goes = λ from. recovers begun log begins objects of_store goes.0 goes.1 from goes.2
 
-    told_refuses : (told : Option Objects) (error : RecoverError) → IfSome told (HasValueOf begun)
+    told_refuses : (told : Option Objects) (error : RecoverError) → IfSome told (BeginsAsStored begun)
         → IfSome told (λ objects. StopsWith objects names begun error)
         → IfSome told (λ objects. IsRecoveryBegun uuid geometry base names objects → IsRecoveryRefused volume objects error)
-    told_refuses None error value stops = tt
-    told_refuses (Some objects) error value stops = λ from.
+    told_refuses None error of_store stops = tt
+    told_refuses (Some objects) error of_store stops = λ from.
         elim stops [
           | inl none ↦ no_answer_refused volume objects error none
-          | inr is ↦ refuses begun is.0 begins objects value is.1 is.2 from error is.3
+          | inr is ↦ refuses begun is.0 begins objects of_store is.1 is.2 from error is.3
         ]
 
     -- how the list goes on, the recovery ends
     pub recovers_so : (Tells : Type 0) (old new : StoreState) (result : Result ObjLogState RecoverError)
-        → (Tells → IfSome old.objects (HasValueOf begun)) → GoesOnOf Tells begun names old new result
+        → (Tells → IfSome old.objects (BeginsAsStored begun)) → GoesOnOf Tells begun names old new result
         → RecoverListOf Tells uuid geometry base names old new result
-    recovers_so Tells old new (Ok log) value goes = record {
+    recovers_so Tells old new (Ok log) of_store goes = record {
       list = list_after begun log begins goes.list;
       from = subst (λ n. n ≤ log.uploads.window.last) (ap (λ (w : WindowState). w.last) begins.list.window) goes.from;
       order = goes.order;
       places =
           subst (λ (sizes : Geometry). HasPlacesInside sizes.sectors log.uploads.queue) begins.list.geometry_is goes.places;
-      recovers = λ tells. told_recovers old.objects log (value tells) (goes.goes_on tells);
+      table = goes.table base.number begins.table;
+      recovers = λ tells. told_recovers old.objects log (of_store tells) (goes.goes_on tells);
       refused = λ tells. tt;
       unchanged = goes.unchanged;
       faults = goes.faults;
     }
-    recovers_so Tells old new (Err error) value goes = record {
+    recovers_so Tells old new (Err error) of_store goes = record {
       list = tt;
       from = tt;
       order = tt;
       places = tt;
+      table = tt;
       recovers = λ tells. tt;
-      refused = λ tells. told_refuses old.objects error (value tells) (goes.refused tells);
+      refused = λ tells. told_refuses old.objects error (of_store tells) (goes.refused tells);
       unchanged = goes.unchanged;
       faults = goes.faults;
     }
@@ -401,22 +413,24 @@ pub told_goes_on : (told : Option Objects) (names : List ObjName) (begun log : O
     → IsListUpTo begun.uploads.uuid begun.batch.geometry log.uploads.window.last log.uploads.queue.end log
     → IfSome told (λ objects. KeepsStreams (expected_of_volume begun) objects begun log)
     → IfSome told (λ objects. KeepsGood (expected_of_volume begun) objects begun log)
+    → IfSome told (λ objects. KeepsKnown (expected_of_volume begun) objects begun log)
     → IfSome told (λ objects. HasEndedAt objects log left) → IfSome told (λ objects. JudgesRest objects log names left None)
     → IfSome told (λ objects. GoesOnWith objects names begun log)
-told_goes_on None names begun log left up_to streams good ended rest = tt
-told_goes_on (Some objects) names begun log left up_to streams good ended rest =
-    (left, record { list = up_to; streams = streams; good = good; ended = ended }, rest)
+told_goes_on None names begun log left up_to streams good knows ended rest = tt
+told_goes_on (Some objects) names begun log left up_to streams good knows ended rest =
+    (left, record { list = up_to; streams = streams; good = good; knows = knows; ended = ended }, rest)
 
 pub told_stops : (told : Option Objects) (names : List ObjName) (begun log : ObjLogState) (left : Option Reached)
     (error : RecoverError)
     → IsListUpTo begun.uploads.uuid begun.batch.geometry log.uploads.window.last log.uploads.queue.end log
     → IfSome told (λ objects. KeepsStreams (expected_of_volume begun) objects begun log)
     → IfSome told (λ objects. KeepsGood (expected_of_volume begun) objects begun log)
+    → IfSome told (λ objects. KeepsKnown (expected_of_volume begun) objects begun log)
     → IfSome told (λ objects. HasEndedAt objects log left) → IfSome told (λ objects. RefusesRest objects log names left error)
     → IfSome told (λ objects. StopsWith objects names begun error)
-told_stops None names begun log left error up_to streams good ended rest = tt
-told_stops (Some objects) names begun log left error up_to streams good ended rest =
-    inr (log, left, record { list = up_to; streams = streams; good = good; ended = ended }, rest)
+told_stops None names begun log left error up_to streams good knows ended rest = tt
+told_stops (Some objects) names begun log left error up_to streams good knows ended rest =
+    inr (log, left, record { list = up_to; streams = streams; good = good; knows = knows; ended = ended }, rest)
 
 pub told_unread : (told : Option Objects) (names : List ObjName) (begun : ObjLogState) (error : RecoverError) → IsNoAnswer error
     → IfSome told (λ objects. StopsWith objects names begun error)

@@ -23,11 +23,11 @@ use Rattle.object_recovery.specs.Places.{IsInsideObject, HasPlacesInside}
 use Rattle.object_recovery.specs.Adoption.{IsReadAsData}
 
 -- what is so of the thing that there is
-so_some : {X : Type 0} (P : X → Type 0) (option : Option X) → ((x : X) → option ≡ Some x → P x) → IfSome option P
+pub so_some : {X : Type 0} (P : X → Type 0) (option : Option X) → ((x : X) → option ≡ Some x → P x) → IfSome option P
 so_some P None so = tt
 so_some P (Some x) so = so x refl
 
-some_so : {X : Type 0} (P : X → Type 0) (option : Option X) → IfSome option P → (x : X) → option ≡ Some x → P x
+pub some_so : {X : Type 0} (P : X → Type 0) (option : Option X) → IfSome option P → (x : X) → option ≡ Some x → P x
 some_so P option is x some = subst (λ o. IfSome o P) some is
 
 -- ---- by rows

@@ -15,7 +15,7 @@ use Rattle.ckpt_format.specs.Rows.{may_stand, AllMayStand, AreCheckpointRows}
 use Rattle.ckpt_format.proofs.SpellingLemmas.{Stands, stands}
 use Rattle.volume_maps.specs.declared.place.ObjectPlace.{ObjectPlace}
 use Rattle.volume_maps.specs.Places.{object_on}
-use Rattle.object_recovery.specs.Beginning.{mapped_place}
+use Rattle.object_uploads.specs.Checkpoint.{mapped_place}
 use Rattle.object_recovery.proofs.EarlierLemmas.{last_place}
 
 -- ---- what a row and its places say

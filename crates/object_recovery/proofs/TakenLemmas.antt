@@ -1,6 +1,6 @@
 -- The objects before a checkpoint in a list that took them up.
 use Rattle.std.proofs.Common.{◌≡◌, ℕ, zero, suc, ◌<◌, ◌==◌, true, false, Some, List, [], ◌∷◌, ◌++◌, length, map, get_or, refl}
-use Rattle.std.proofs.Common.{◌∙◌, ap, subst, arith}
+use Rattle.std.proofs.Common.{sym, ◌∙◌, ap, subst, arith}
 use Rattle.std.specs.List.{All, AllZip, Contains}
 use Rattle.std.proofs.lemmas.Bool.Decides.{nat_tests}
 use Rattle.std.proofs.lemmas.List.Elements.{All-nil, All-cons, All-head, All-tail}
@@ -26,17 +26,22 @@ module _ (volume : Expected) where
       (taken.0, taken_push rest rows e payload front taken.1 parts)
 
   -- their numbers are those of the objects
+  pub taken_have : (P : ℕ → Type 0) (earlier : List EarlierObject) (rows : List ObjectRow)
+      → AllZip (IsTakenUp volume) earlier rows → All (λ (e : EarlierObject). P e.number) earlier
+      → All (λ (row : ObjectRow). P row.number) rows
+  taken_have P [] [] taken all = All-nil (λ (row : ObjectRow). P row.number)
+  taken_have P [] (row ∷ rows) taken all = absurd taken
+  taken_have P (first ∷ rest) [] taken all = absurd taken
+  taken_have P (first ∷ rest) (row ∷ rows) taken all =
+      let head = All-head (λ (e : EarlierObject). P e.number) first rest all in
+      let is = ap (λ (r : ObjectRow). r.number) taken.0.2 in
+      All-cons (λ (r : ObjectRow). P r.number) row rows (subst P (sym is) head)
+      (taken_have P rest rows taken.1 (All-tail (λ (e : EarlierObject). P e.number) first rest all))
+
   pub taken_below : (earlier : List EarlierObject) (rows : List ObjectRow) (number : ℕ)
       → AllZip (IsTakenUp volume) earlier rows → All (λ (e : EarlierObject). e.number < number) earlier
       → All (λ (row : ObjectRow). row.number < number) rows
-  taken_below [] [] number taken below = All-nil (λ (row : ObjectRow). row.number < number)
-  taken_below [] (row ∷ rows) number taken below = absurd taken
-  taken_below (first ∷ rest) [] number taken below = absurd taken
-  taken_below (first ∷ rest) (row ∷ rows) number taken below =
-      let head = All-head (λ (e : EarlierObject). e.number < number) first rest below in
-      let is = ap (λ (r : ObjectRow). r.number) taken.0.2 in
-      All-cons (λ (row : ObjectRow). row.number < number) row rows (omega (arith, head, is))
-      (taken_below rest rows number taken.1 (All-tail (λ (e : EarlierObject). e.number < number) first rest below))
+  taken_below earlier rows number taken below = taken_have (λ n. n < number) earlier rows taken below
 
   -- what a list has of an object that was taken up
   pub record HasTaken (e : EarlierObject) (rows : List ObjectRow) (receipts : List NumberedReceipt) : Type 0 where

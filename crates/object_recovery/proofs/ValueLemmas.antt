@@ -37,7 +37,8 @@ use Rattle.object_recovery.specs.Checkpoints.{expected_of}
 use Rattle.object_recovery.specs.Missing.{IsMissing}
 use Rattle.object_recovery.specs.Earlier.{EarlierObject, AreAllEarlier, IsStoredThere, HasEarlier, IsReached, ReachedBy}
 use Rattle.object_recovery.specs.Earlier.{NamesNone}
-use Rattle.object_recovery.specs.Beginning.{LacksReach, mapped_place}
+use Rattle.object_recovery.specs.Beginning.{LacksReach}
+use Rattle.object_uploads.specs.Checkpoint.{mapped_place}
 use Rattle.object_recovery.proofs.RowLemmas.{place_stands}
 use Rattle.object_recovery.proofs.BegunLemmas.{HasBegunWith, HasAt, has_at, inside_payload}
 

@@ -36,6 +36,7 @@ use Rattle.object_recovery.specs.Places.{HasPlacesInside}
 use Rattle.object_recovery.specs.Read.{IsReadAs}
 use Rattle.object_recovery.specs.Recovery.{IsListUpTo, KeepsStreams, IsRecoveryRefused}
 use Rattle.object_recovery.specs.Recovering.{Recovers}
+use Rattle.object_recovery.specs.Table.{HasTableFrom, KnowsObjects}
 
 -- ---- the next object
 
@@ -124,6 +125,15 @@ abbrev pub KeepsGood : Expected → Objects → (old new : ObjLogState) → Type
 KeepsGood volume objects old new = (base : ℕ) → IsReached volume objects base (reached_by old)
     → IsReached volume objects base (reached_by new)
 
+-- where the table of one list has just the objects of the store from a checkpoint on, that of the other one has
+abbrev pub KeepsKnown : Expected → Objects → (old new : ObjLogState) → Type 0
+KeepsKnown volume objects old new = (base : ℕ) → base ≤ old.uploads.queue.frontier
+    → KnowsObjects volume objects base old.uploads.queue → KnowsObjects volume objects base new.uploads.queue
+
+-- where the table of one list is from a checkpoint on, that of the other one is
+abbrev pub KeepsTable : (old new : ObjLogState) → Type 0
+KeepsTable old new = (checkpoint : ℕ) → HasTableFrom checkpoint old.uploads.queue → HasTableFrom checkpoint new.uploads.queue
+
 -- the list ends before the first missing number, or before this object
 abbrev pub HasEndedAt : Objects → ObjLogState → Option Reached → Type 0
 HasEndedAt objects log None = HasNoNext objects log
@@ -163,6 +173,7 @@ pub record HasGoneOn (objects : Objects) (old new : ObjLogState) (left : Option 
   pub list : IsListUpTo old.uploads.uuid old.batch.geometry new.uploads.window.last new.uploads.queue.end new
   pub streams : KeepsStreams (expected_of_volume old) objects old new
   pub good : KeepsGood (expected_of_volume old) objects old new
+  pub knows : KeepsKnown (expected_of_volume old) objects old new
   pub ended : HasEndedAt objects new left
 
 -- and all past it were judged, and none is refused; or the error refuses them, or is no answer
@@ -184,6 +195,7 @@ pub record GoesOnOf (Tells : Type 0) (log : ObjLogState) (names : List ObjName) 
   pub from : IfOk result (λ after. log.uploads.window.last ≤ after.uploads.window.last)
   pub order : IfOk result (λ after. IsUploads after.uploads)
   pub places : IfOk result (λ after. HasPlacesInside log.batch.geometry.sectors after.uploads.queue)
+  pub table : IfOk result (KeepsTable log)
   pub goes_on : Tells → IfOk result (λ after. IfSome old.objects (λ objects. GoesOnWith objects names log after))
   pub refused : Tells → IfErr result (λ error. IfSome old.objects (λ objects. StopsWith objects names log error))
   pub unchanged : OnlyCounts old new
@@ -204,6 +216,7 @@ pub record RecoverListOf (Tells : Type 0) (uuid : List ℕ) (geometry : Geometry
   pub from : IfOk result (λ log. base.number ≤ log.uploads.window.last)
   pub order : IfOk result (λ log. IsUploads log.uploads)
   pub places : IfOk result (λ log. HasPlacesInside geometry.sectors log.uploads.queue)
+  pub table : IfOk result (λ log. HasTableFrom base.number log.uploads.queue)
   pub recovers : Tells → IfOk result (λ log. IfSome old.objects (λ objects.
       IsRecoveryBegun uuid geometry base names objects
       → Recovers (expected_of uuid geometry) base.number objects log))

@@ -21,11 +21,11 @@ use Rattle.stopped_volume.specs.Expected.{expected_alone}
 use Rattle.stopped_volume.specs.Opening.{owned_by, HoldPlaces}
 use Rattle.object_table.specs.declared.row.ObjectRow.{ObjectRow}
 use Rattle.object_table.specs.Table.{new_row}
-use Rattle.volume_maps.specs.declared.place.ObjectPlace.{ObjectPlace}
 use Rattle.volume_maps.specs.Maps.{settled_at}
 use Rattle.volume_maps.specs.Live.{MayGain, HasSameObjects}
 use Rattle.volume_maps.specs.Laws.{place_owner}
 use Rattle.object_uploads.specs.State.{NumberedReceipt}
+use Rattle.object_uploads.specs.Checkpoint.{mapped_place}
 use Rattle.object_uploads.specs.Image.{HasImage, HasOwnReceipts}
 use Rattle.object_uploads.specs.Order.{IsUploads}
 use Rattle.object_uploads.specs.Opening.{IsSameButFound, HasFound}
@@ -37,6 +37,7 @@ use Rattle.object_recovery.specs.Missing.{IsMissing}
 use Rattle.object_recovery.specs.Earlier.{EarlierObject}
 use Rattle.object_recovery.specs.Places.{HasPlacesInside}
 use Rattle.object_recovery.specs.Recovery.{IsListUpTo}
+use Rattle.object_recovery.specs.Table.{HasTableFrom, KnowsObjects, AreNamedThere}
 
 -- Where all places of rows hold their sectors, the objects of a list have the image that is the value of the rows' owners, and
 -- each receipt is for the object's own bytes.
@@ -45,14 +46,23 @@ HasValue volume objects rows log =
     (uuid_at : ℕ → Option (List ℕ)) (image : Image) → uuid_at 0 ≡ Some volume.uuid → HoldPlaces objects uuid_at rows
     → IsValue objects uuid_at (owned_by rows) image → HasImage image log.uploads.queue × HasOwnReceipts log.uploads.queue
 
--- A list begins with a checkpoint of these rows: all is acknowledged up to it, and the objects' map has its places, each inside
--- an object that the store has.
+-- A list begins with a checkpoint of these rows: all is acknowledged up to it, the objects' map has its places, each inside an
+-- object that the store has, and the table is from it on.
 pub record BeginsList (uuid : List ℕ) (geometry : Geometry) (checkpoint : ReadCheckpoint) (rows : List (Extent StoredPlace))
     (log : ObjLogState) : Type 0 where
   pub list : IsListUpTo uuid geometry checkpoint.number checkpoint.end log
   pub order : IsUploads log.uploads
   pub places : HasPlacesInside geometry.sectors log.uploads.queue
   pub owners_are : (k : ℕ) → place_owner (settled_at log.uploads.queue.maps k) ≡ owned_by rows k
+  pub table : HasTableFrom checkpoint.number log.uploads.queue
+
+-- A list begins with what the store has: its objects have the value of the rows of the checkpoint of this number, its table has
+-- just the objects that the store has up to it, and each place of the rows is in one of these.
+pub record BeginsInStore (volume : Expected) (objects : Objects) (number : ℕ) (rows : List (Extent StoredPlace))
+    (log : ObjLogState) : Type 0 where
+  pub value : HasValue volume objects rows log
+  pub knows : KnowsObjects volume objects number log.uploads.queue
+  pub named : AreNamedThere volume objects rows
 
 -- ---- an object before the checkpoint
 
@@ -118,10 +128,6 @@ pub record HasTakenUp (uuid : List ℕ) (geometry : Geometry) (number end : ℕ)
 
 -- ---- the rows of the checkpoint
 
--- a place of a checkpoint as one of the map
-abbrev pub mapped_place : StoredPlace → ObjectPlace
-mapped_place place = record { level = place.level; number = place.number; sector = place.place }
-
 -- the objects' map may take the rows
 abbrev pub MayMap : List (Extent StoredPlace) → ObjLogState → Type 0
 MayMap rows log = (k : ℕ) (place : StoredPlace) → place_at stored_on rows k ≡ Some place
@@ -145,7 +151,8 @@ BeginsWith Tells uuid geometry checkpoint names objects (begins.List log) =
     × IsCheckpoint checkpoint.bytes (expected_alone (expected_of uuid geometry) checkpoint.number) checkpoint.end rows
     × BeginsList uuid geometry checkpoint rows log
     × (Tells → IfSome objects (λ objects. Lists uuid objects names
-    → IsStoredCheckpoint (expected_of uuid geometry) objects checkpoint → HasValue (expected_of uuid geometry) objects rows log))
+    → IsStoredCheckpoint (expected_of uuid geometry) objects checkpoint
+    → BeginsInStore (expected_of uuid geometry) objects checkpoint.number rows log))
 BeginsWith Tells uuid geometry checkpoint names objects (begins.Missing number) =
     Tells → IfSome objects (λ objects. Lists uuid objects names → (end : ℕ) (rows : List (Extent StoredPlace))
     → IsCheckpoint checkpoint.bytes (expected_alone (expected_of uuid geometry) checkpoint.number) end rows

@@ -8,6 +8,7 @@ pub mod Places
 pub mod Removal
 pub mod Adoption
 pub mod Missing
+pub mod Table
 pub mod Earlier
 pub mod Recovery
 pub mod Beginning

@@ -5,6 +5,8 @@ use Rattle.lsvd_fault.specs.Faults.{Counts}
 use Rattle.lsvd_objstore.specs.Objects.{Objects}
 use Rattle.lsvd_objstore.specs.Store.{StoreState, OnlyCounts}
 use Rattle.object_format.specs.declared.expected.Expected.{Expected}
+use Rattle.object_stream.specs.Stream.{Owners}
+use Rattle.stopped_volume.specs.Opening.{IsCheckpointOf}
 use Rattle.object_uploads.specs.Order.{IsUploads}
 use Rattle.obj_log.specs.State.{ObjLogState}
 use Rattle.object_recovery.specs.declared.error.RecoverError.{RecoverError}
@@ -15,10 +17,12 @@ use Rattle.object_recovery.specs.Places.{HasPlacesInside}
 use Rattle.object_recovery.specs.Recovery.{IsListUpTo, IsNoLonger, IsRecoveredOf, AreAllGood, AreNamedWholePast}
 use Rattle.object_recovery.specs.Recovery.{IsRecoveryRefused}
 use Rattle.object_recovery.specs.State.{RecoveredState, HasAllNames}
+use Rattle.object_recovery.specs.Table.{HasTableFrom, KnowsObjects, AreNamedThere}
 
 -- The list is that of the objects of a store, and its checkpoint, which has this number, is their newest. Each of its objects has
--- landed, each object past the checkpoint is good, and each past the list is whole. A list whose last number is the greatest of
--- all that a list can have may end before the first missing number.
+-- landed, each object past the checkpoint is good, and each past the list is whole. Its table has just the objects that the store
+-- has up to its last, and each place of the checkpoint's rows is in one of these. A list whose last number is the greatest of all
+-- that a list can have may end before the first missing number.
 pub record Recovers (volume : Expected) (base : ℕ) (objects : Objects) (log : ObjLogState) : Type 0 where
   pub checkpoint : (end : ℕ) × IsNewestWithEnd volume objects base end
   pub recovered : log.uploads.window.last + 1 < 2 ^ 64 - 1 → IsRecoveredOf volume objects log
@@ -26,15 +30,20 @@ pub record Recovers (volume : Expected) (base : ℕ) (objects : Objects) (log : 
   pub landed : HaveLanded objects volume base log.uploads.window.last
   pub good : AreAllGood volume objects base
   pub past : AreNamedWholePast volume objects log.uploads.window.last
+  pub knows : KnowsObjects volume objects base log.uploads.queue
+  pub named : (end : ℕ) (owned : Owners) → (checkpoint : IsCheckpointOf volume objects base end owned)
+      → AreNamedThere volume objects checkpoint.rows
 
 -- The list of a volume was recovered, with the names of all its objects. Each object of the list is acknowledged, and each place
--- in its map lies inside one; its objects are in order. Where bytes are told, it is that of the objects of the store.
+-- in its map lies inside one; its objects are in order, and its table is from its checkpoint on. Where bytes are told, it is that
+-- of the objects of the store.
 pub record RecoveredOf (Tells : Type 0) (uuid : List ℕ) (geometry : Geometry) (objects : Option Objects)
     (found : RecoveredState) : Type 0 where
   pub list : IsListUpTo uuid geometry found.log.uploads.window.last found.log.uploads.queue.end found.log
   pub from : found.checkpoint ≤ found.log.uploads.window.last
   pub order : IsUploads found.log.uploads
   pub places : HasPlacesInside geometry.sectors found.log.uploads.queue
+  pub table : HasTableFrom found.checkpoint found.log.uploads.queue
   pub names : HasAllNames objects found
   pub told : Tells → IfSome objects (λ objects. Recovers (expected_of uuid geometry) found.checkpoint objects found.log)
 

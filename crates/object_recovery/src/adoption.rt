@@ -9,7 +9,8 @@ ghost use Rattle.object_recovery.specs.Faults.{ends_by_fault, IsNoAnswer};
 ghost use Rattle.stopped_volume.specs.Store.{TellsBytes};
 ghost use Rattle.object_recovery.specs.Places.{HasPlacesInside};
 ghost use Rattle.object_recovery.specs.Recovery.{IsListUpTo, KeepsStreams};
-ghost use Rattle.object_recovery.specs.Adoption.{IsNextRead, ComesNext, KeepsGood, HasEndedAt};
+ghost use Rattle.object_recovery.specs.Adoption.{IsNextRead, ComesNext, KeepsGood, KeepsKnown, KeepsTable};
+ghost use Rattle.object_recovery.specs.Adoption.{HasEndedAt};
 
 use crate::error::RecoverError;
 use crate::judging::{ObjectRefusal, Reached};
@@ -69,6 +70,9 @@ pub(crate) fn adopt_all<S: Store>(
         KeepsStreams (expected_of_volume log.old) objects log.old log.new)) }
     ensures good { TellsBytes S.Receipt.state → OnOk result (IfSome (S.state store.old).objects (λ objects.
         KeepsGood (expected_of_volume log.old) objects log.old log.new)) }
+    ensures knows { TellsBytes S.Receipt.state → OnOk result (IfSome (S.state store.old).objects (λ objects.
+        KeepsKnown (expected_of_volume log.old) objects log.old log.new)) }
+    ensures table { OnOk result (KeepsTable log.old log.new) }
     ensures ended { TellsBytes S.Receipt.state
         → IfOk result (λ left. IfSome (S.state store.old).objects (λ objects.
         HasEndedAt objects log.new left)) }

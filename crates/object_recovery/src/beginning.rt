@@ -12,13 +12,14 @@ ghost use Rattle.extent_map.specs.declared.extent.Extent.{Extent};
 ghost use Rattle.object_table.specs.Table.{IsNewest};
 ghost use Rattle.ckpt_format.specs.declared.place.StoredPlace.{StoredPlace};
 ghost use Rattle.ckpt_format.specs.Checkpoint.{IsCheckpoint};
+ghost use Rattle.object_uploads.specs.Checkpoint.{mapped_place};
 ghost use Rattle.stopped_volume.specs.Store.{TellsBytes};
 ghost use Rattle.object_recovery.specs.Faults.{ends_by_fault, IsNoAnswer};
 ghost use Rattle.object_recovery.specs.Checkpoints.{expected_of, IsReadCheckpoint};
 ghost use Rattle.object_recovery.specs.Earlier.{EarlierObject, AreEarlier, AreAllEarlier, IsBefore, ReachAll};
 ghost use Rattle.object_recovery.specs.Earlier.{AreSameObjects, IsReachedBy, HasEarlier, NamesNone};
 ghost use Rattle.object_recovery.specs.Beginning.{BeginsWith, HasPartsOrLacks, TakesUpOrLacks, LacksReach};
-ghost use Rattle.object_recovery.specs.Beginning.{HasTakenUp, MayMap, HasRows, mapped_place};
+ghost use Rattle.object_recovery.specs.Beginning.{HasTakenUp, MayMap, HasRows};
 
 use crate::checkpoint::{StoredCheckpoint, expected_alone};
 use crate::error::RecoverError;
@@ -101,7 +102,7 @@ pub(crate) fn begin_list<S: Store>(
     if number != 0 {
         log.uploads_mut().begin(receipt)?;
     }
-    // This one's contract says that the objects are in order.
+    // The objects of each list are in order, which a contract tells only where one is read.
     let _ = log.uploads().frontier();
     Ok(Beginning::List(log))
 }

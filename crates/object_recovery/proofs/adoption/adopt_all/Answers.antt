@@ -9,11 +9,12 @@ use Rattle.obj_log.specs.State.{ObjLogState}
 use Rattle.obj_log.proofs.StreamLemmas.{same_volume}
 use Rattle.stopped_volume.specs.Store.{TellsBytes}
 use Rattle.object_recovery.specs.Places.{HasPlacesInside}
-use Rattle.object_recovery.specs.Adoption.{AdoptsNext, KeepsGood}
+use Rattle.object_recovery.specs.Adoption.{AdoptsNext, KeepsGood, KeepsKnown, KeepsTable}
 use Rattle.object_recovery.specs.Recovery.{KeepsStreams}
 use Rattle.object_recovery.proofs.FindLemmas.{same_store}
 use Rattle.object_recovery.proofs.ListLemmas.{list_more, told_same, told_more, told_still, told_good}
 use Rattle.object_recovery.proofs.PlaceLemmas.{places_more}
+use Rattle.object_recovery.proofs.TableLemmas.{told_knows, told_known, table_more}
 use Rattle.object_recovery.proofs.adoption.adopt_all.Goals as goal
 
 pub loop-reached-init : goal.loop-reached-init
@@ -24,6 +25,8 @@ loop-reached-init g c = record {
   same = refl;
   streams = λ tells. told_same (g.S.Store.state c.args.store.now).objects (expected_of_volume c.args.log.now) c.args.log.now;
   good = λ tells. told_still (g.S.Store.state c.args.store.now).objects (expected_of_volume c.args.log.now) c.args.log.now;
+  knows = λ tells. told_known (g.S.Store.state c.args.store.now).objects (expected_of_volume c.args.log.now) c.args.log.now;
+  table = λ checkpoint has. has;
 }
 
 pub loop-reached-preserved : goal.loop-reached-preserved
@@ -62,6 +65,10 @@ loop-reached-preserved g c =
       good = λ tells.
           told_good told (expected_of_volume begun) Tells begun.uploads.uuid begun.batch.geometry begun old new of_volume is tells
           here (before.good tells);
+      knows = λ tells.
+          told_knows told (expected_of_volume begun) Tells begun.uploads.uuid begun.batch.geometry old.uploads.queue.end begun
+          old new of_volume is (omega (arith, before.from, c.requires.list.frontier)) tells here (before.knows tells);
+      table = table_more Tells told begun old new here before.table;
     }
 
 -- ---- where there is no next object
@@ -86,6 +93,18 @@ returns-in-Missing-clause-good g c = λ tells.
     (λ objects. KeepsGood (expected_of_volume c.args.log.now) objects c.args.log.now new)) (sym none.0)
     (c.loop-reached.invariant.good tells)
 
+pub returns-in-Missing-clause-knows : goal.returns-in-Missing-clause-knows
+returns-in-Missing-clause-knows g c = λ tells.
+    let none = rw c.in-Missing.is at c.in_ok-adopt_next.ensures.next in
+    subst (λ new. IfSome (g.S.Store.state c.args.store.now).objects
+    (λ objects. KeepsKnown (expected_of_volume c.args.log.now) objects c.args.log.now new)) (sym none.0)
+    (c.loop-reached.invariant.knows tells)
+
+pub returns-in-Missing-clause-table : goal.returns-in-Missing-clause-table
+returns-in-Missing-clause-table g c =
+    let none = rw c.in-Missing.is at c.in_ok-adopt_next.ensures.next in
+    subst (KeepsTable c.args.log.now) (sym none.0) c.loop-reached.invariant.table
+
 -- ---- where the next object is left
 
 pub returns-in-Left-clause-places : goal.returns-in-Left-clause-places
@@ -107,3 +126,15 @@ returns-in-Left-clause-good g c = λ tells.
     subst (λ new. IfSome (g.S.Store.state c.args.store.now).objects
     (λ objects. KeepsGood (expected_of_volume c.args.log.now) objects c.args.log.now new)) (sym left.0)
     (c.loop-reached.invariant.good tells)
+
+pub returns-in-Left-clause-knows : goal.returns-in-Left-clause-knows
+returns-in-Left-clause-knows g c = λ tells.
+    let left = rw c.in-Left.is at c.in_ok-adopt_next.ensures.next in
+    subst (λ new. IfSome (g.S.Store.state c.args.store.now).objects
+    (λ objects. KeepsKnown (expected_of_volume c.args.log.now) objects c.args.log.now new)) (sym left.0)
+    (c.loop-reached.invariant.knows tells)
+
+pub returns-in-Left-clause-table : goal.returns-in-Left-clause-table
+returns-in-Left-clause-table g c =
+    let left = rw c.in-Left.is at c.in_ok-adopt_next.ensures.next in
+    subst (KeepsTable c.args.log.now) (sym left.0) c.loop-reached.invariant.table

@@ -3,7 +3,7 @@ use Rattle.std.specs.Prelude.{IfSome}
 use Rattle.obj_log.specs.Changes.{expected_of_volume}
 use Rattle.stopped_volume.specs.Store.{TellsBytes}
 use Rattle.object_recovery.specs.Places.{HasPlacesInside}
-use Rattle.object_recovery.specs.Adoption.{KeepsGood}
+use Rattle.object_recovery.specs.Adoption.{KeepsGood, KeepsKnown, KeepsTable}
 use Rattle.object_recovery.specs.Recovery.{IsListUpTo, KeepsStreams}
 use Rattle.object_recovery.proofs.adoption.adopt_all.Given as goal
 
@@ -20,6 +20,10 @@ invariant-loop-reached g l = record {
   good : TellsBytes g.S.Receipt.Receipt.state
       → IfSome (g.S.Store.state l.initial.store).objects (λ objects. KeepsGood (expected_of_volume l.initial.log) objects
       l.initial.log l.log);
+  knows : TellsBytes g.S.Receipt.Receipt.state
+      → IfSome (g.S.Store.state l.initial.store).objects (λ objects. KeepsKnown (expected_of_volume l.initial.log) objects
+      l.initial.log l.log);
+  table : KeepsTable l.initial.log l.log;
 }
 
 abbrev pub decreases-loop-reached : goal.decreases-loop-reached

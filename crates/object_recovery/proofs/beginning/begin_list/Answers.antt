@@ -26,12 +26,14 @@ use Rattle.object_recovery.specs.Checkpoints.{expected_of, ReadCheckpoint, IsSto
 use Rattle.object_recovery.specs.declared.error.RecoverError.TheVariants as errors
 use Rattle.object_recovery.specs.Recovery.{IsListUpTo}
 use Rattle.object_recovery.specs.Faults.{IsNoAnswer, ends_by_fault, is_store_fault}
-use Rattle.object_recovery.specs.Beginning.{HasTakenUp, HasRows, LacksReach, HasValue}
+use Rattle.object_recovery.specs.Beginning.{HasTakenUp, HasRows, LacksReach, BeginsInStore}
 use Rattle.object_recovery.specs.Earlier.{EarlierObject, AreEarlier, AreAllEarlier, AreSameObjects, ReachAll, NamesNone}
 use Rattle.object_recovery.proofs.EarlierLemmas.{Ascend, same_length, earlier_same, tells_same, all_earlier_same}
 use Rattle.object_recovery.proofs.FindLemmas.{same_store, told_so, passed_on, passed_as}
-use Rattle.object_recovery.proofs.BegunLemmas.{list_same, HasBegunWith, rows_begun, all_begun, may_map, newest_checkpoint}
-use Rattle.object_recovery.proofs.BeginLemmas.{rows_stand, none_taken, absent_told, lacking_told, begins_list, has_value}
+use Rattle.object_recovery.proofs.TakenLists.{list_same}
+use Rattle.object_recovery.proofs.BegunLemmas.{HasBegunWith, rows_begun, all_begun, may_map, newest_checkpoint}
+use Rattle.object_recovery.proofs.BegunTable.{ListsTable, none_begun, all_passed}
+use Rattle.object_recovery.proofs.BeginLemmas.{rows_stand, none_taken, absent_told, lacking_told, begins_list, begins_in_store}
 use Rattle.object_recovery.proofs.beginning.begin_list.Given as given
 use Rattle.object_recovery.proofs.beginning.begin_list.Goals.{then-number-ne0+in_ok-begin, else-number-ne0, After-log-1}
 use Rattle.object_recovery.proofs.beginning.begin_list.Goals.{After-expected-2-1, After-uploads_mut, After-drop-bytes-2}
@@ -300,6 +302,7 @@ pub record Comes (g : given.Over) (c : After-drop-bytes-2 g) : Type 0 where
   pub begun : HasBegunWith (expected_of c.args.uuid c.args.geometry) c.reach_all.new.earlier c.requires.read.rows
       c.if-number-ne0.log.uploads.queue
   pub list : IsListUpTo c.args.uuid c.args.geometry c.checkpoint.inside.number c.checkpoint.inside.end c.if-number-ne0.log
+  pub lists : ListsTable c.checkpoint.inside.number c.reach_all.new.earlier c.if-number-ne0.log.uploads.queue
 
 comes : (g : given.Over) (c : After-drop-bytes-2 g) → Comes g c
 comes g c =
@@ -326,16 +329,28 @@ comes g c =
           let begun : HasBegun receipt log.uploads now.uploads =
           subst (λ (u : UploadsState). HasBegun receipt u now.uploads) w.uploads_mut.ensures.is w.in_ok-begin.ensures.begun in
           let with_it = all_begun uuid geometry number end new rows c.take_up.new.log log order taken has receipt now begun in
+          let test = w.if-number-ne0.true in
+          let some : 0 < number = grind (arith, nat_tests) in
+          let newest = newest_checkpoint uuid geometry number end new rows c.take_up.new.log log taken has
+          (earlier_are g at).within some in
           let is : c.if-number-ne0.log ≡ now = w.log-is in
           record {
             begun = subst (λ (l : ObjLogState). HasBegunWith volume new rows l.uploads.queue) (sym is) with_it;
             list = subst (IsListUpTo uuid geometry number end) (sym is)
                 (list_same uuid geometry number end log now begun.rest refl list);
+            lists = subst (λ (l : ObjLogState). ListsTable number new l.uploads.queue) (sym is)
+                (all_passed uuid geometry number end new rows c.take_up.new.log log taken has receipt now begun
+                newest.above_rows);
           })
-      | else-number-ne0 w ↦ record {
-        begun = subst (λ (l : ObjLogState). HasBegunWith volume new rows l.uploads.queue) (sym w.log-is) all;
-        list = subst (IsListUpTo uuid geometry number end) (sym w.log-is) list;
-      }
+      | else-number-ne0 w ↦ (
+          let test = w.if-number-ne0.false in
+          let none : number ≡ 0 = grind (arith, nat_tests) in
+          record {
+            begun = subst (λ (l : ObjLogState). HasBegunWith volume new rows l.uploads.queue) (sym w.log-is) all;
+            list = subst (IsListUpTo uuid geometry number end) (sym w.log-is) list;
+            lists = subst (λ (l : ObjLogState). ListsTable number new l.uploads.queue) (sym w.log-is)
+                (none_begun uuid geometry number end new rows c.take_up.new.log log taken has none);
+          })
     ]
 
 pub returns-clause-begins : goal.returns-clause-begins
@@ -356,16 +371,18 @@ returns-clause-begins g c =
     let stand = rows_stand checkpoint.bytes uuid geometry checkpoint.number checkpoint.end read.rows read.is in
     let list = subst (λ (k : ReadCheckpoint). IsListUpTo uuid geometry k.number k.end log) view it.list in
     let order = subst IsUploads c.uploads.ensures c.frontier.ensures.order in
+    let lists = subst (λ (k : ReadCheckpoint). ListsTable k.number new log.uploads.queue) view it.lists in
     let number_is : c.checkpoint.inside.number ≡ checkpoint.number = ap (λ (k : ReadCheckpoint). k.number) view in
     let all = subst (λ n. IfSome told (λ objects. Lists uuid objects c.args.names.now → AreAllEarlier uuid objects n items))
     number_is c.in_ok-earlier.ensures.all in (
       read.rows,
       read.is,
-      begins_list uuid geometry checkpoint new read.rows log stand reach it.begun list order,
+      begins_list uuid geometry checkpoint new read.rows log stand reach it.begun list order lists.table,
       λ tells.
           told_so (λ objects. Lists uuid objects c.args.names.now → AreAllEarlier uuid objects checkpoint.number items)
           (λ objects. Lists uuid objects c.args.names.now → IsStoredCheckpoint volume objects checkpoint
-          → HasValue volume objects read.rows log) told (λ objects all listed stored.
-          has_value uuid geometry checkpoint new read.rows log stand reach it.begun list objects
-          (all_earlier_same items new (same_objects g at) uuid objects checkpoint.number (all listed))) all,
+          → BeginsInStore volume objects checkpoint.number read.rows log) told (λ objects all listed stored.
+          begins_in_store uuid geometry checkpoint new read.rows log stand reach it.begun list order lists read.is
+          (tells_same items new (same_objects g at) (c.in_ok-earlier.ensures.tells tells)) objects
+          (all_earlier_same items new (same_objects g at) uuid objects checkpoint.number (all listed)) stored) all,
     )

@@ -5,7 +5,7 @@ use Rattle.object_recovery.specs.Earlier.{EarlierObject}
 use Rattle.object_recovery.specs.Beginning.{TakesUp, TakesUpOrLacks}
 use Rattle.object_recovery.proofs.EarlierLemmas.{Ascend}
 use Rattle.object_recovery.proofs.FindLemmas.{same_store}
-use Rattle.object_recovery.proofs.BegunLemmas.{TakenUpTo, next_taken, below_next, next_is_in, newest_next}
+use Rattle.object_recovery.proofs.TakenLists.{TakenUpTo, next_taken, below_next, next_is_in, newest_next}
 use Rattle.object_recovery.proofs.beginning.take_up.Goals as goal
 
 pub take_one_up-requires-clause-newest : goal.take_one_up-requires-clause-newest

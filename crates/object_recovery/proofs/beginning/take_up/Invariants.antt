@@ -1,5 +1,5 @@
 use Rattle.std.proofs.Common.{◌≡◌}
-use Rattle.object_recovery.proofs.BegunLemmas.{TakenUpTo}
+use Rattle.object_recovery.proofs.TakenLists.{TakenUpTo}
 use Rattle.object_recovery.proofs.beginning.take_up.Given as goal
 
 abbrev pub invariant-loop-object : goal.invariant-loop-object

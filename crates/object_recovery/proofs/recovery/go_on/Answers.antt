@@ -16,6 +16,7 @@ returns-in-Err g c = record {
   from = tt;
   order = tt;
   places = tt;
+  table = tt;
   goes_on = λ tells. tt;
   refused = λ tells.
       told_unread (g.S.Store.state c.args.store.now).objects c.args.names.now c.args.log c.in-Err.error c.in-Err.ensures.answer;
@@ -42,10 +43,11 @@ returns-in-Err-judge_rest g c =
       from = tt;
       order = tt;
       places = tt;
+      table = tt;
       goes_on = λ tells. tt;
       refused = λ tells.
           told_stops old.objects names c.args.log log left error done.list (done.streams tells) (done.good tells)
-          (done.ended tells)
+          (done.knows tells) (done.ended tells)
           (subst (λ (s : StoreState). IfSome s.objects (λ objects. RefusesRest objects log names left error)) same
           (judged.refused tells));
       unchanged = subst (λ (s : StoreState). OnlyCounts s new) same judged.unchanged;
@@ -68,8 +70,10 @@ returns-in-Ok-judge_rest g c =
       from = done.from;
       order = done.order;
       places = done.places;
+      table = done.table;
       goes_on = λ tells.
-          told_goes_on old.objects names c.args.log log left done.list (done.streams tells) (done.good tells) (done.ended tells)
+          told_goes_on old.objects names c.args.log log left done.list (done.streams tells) (done.good tells) (done.knows tells)
+          (done.ended tells)
           (subst (λ (s : StoreState). IfSome s.objects (λ objects. JudgesRest objects log names left None)) same
           (judged.judged tells));
       refused = λ tells. tt;

@@ -12,6 +12,7 @@ use Rattle.object_recovery.specs.Checkpoints.{expected_of, ReadCheckpoint}
 use Rattle.object_recovery.specs.Faults.{of_store, is_store_fault}
 use Rattle.object_recovery.specs.Recovering.{Recovers, RecoverOf}
 use Rattle.object_recovery.specs.Recovery.{IsRecoveryRefused}
+use Rattle.object_recovery.specs.Table.{HasTableFrom}
 use Rattle.object_recovery.proofs.FindLemmas.{same_store, error_of, passed_as}
 use Rattle.object_recovery.proofs.RefusalLemmas.{HasNoneAmong, IsNewestAmong, told_no_answer, newest_refused, newest_begins}
 use Rattle.object_recovery.proofs.OutcomeLemmas.{of_store_is_no_answer, store_counts, told_then}
@@ -175,6 +176,7 @@ returns g c =
         from = subst (λ n. n ≤ c.in_ok-log.log.uploads.window.last) number done.from;
         order = done.order;
         places = done.places;
+        table = subst (λ n. HasTableFrom n c.in_ok-log.log.uploads.queue) number done.table;
         names = record {
           of_volume = subst (λ u. AreNamesOf u names) own listing.names;
           listed = subst (λ u. IfSome old.objects (λ objects. Lists u objects names)) own listing.listed;

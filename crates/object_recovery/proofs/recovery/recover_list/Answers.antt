@@ -13,7 +13,7 @@ use Rattle.object_recovery.specs.Faults.{is_store_fault}
 use Rattle.object_recovery.specs.Places.{HasPlacesInside}
 use Rattle.object_recovery.proofs.FindLemmas.{same_store, passed_as}
 use Rattle.object_recovery.proofs.ListLemmas.{own_list}
-use Rattle.object_recovery.proofs.OutcomeLemmas.{HasValueOf, refusal_counts, told_beside, recovers_so, told_failed}
+use Rattle.object_recovery.proofs.OutcomeLemmas.{BeginsAsStored, refusal_counts, told_beside, recovers_so, told_failed}
 use Rattle.object_recovery.proofs.recovery.recover_list.Goals as goal
 
 -- ---- the list goes on
@@ -56,7 +56,7 @@ returns-in-List g c =
     let wide : geometry.sectors < 2 ^ 64 = grind (arith, nat_tests, c.requires.limits) in
     subst (λ (s : StoreState). RecoverListOf Tells uuid geometry base names s new c.go_on.result) same
     (recovers_so uuid geometry base begins.0 names wide begins.1 log begins.2 Tells middle new c.go_on.result
-    (λ tells. subst (λ (s : StoreState). IfSome s.objects (HasValueOf uuid geometry base begins.0 names wide begins.1 log))
+    (λ tells. subst (λ (s : StoreState). IfSome s.objects (BeginsAsStored uuid geometry base begins.0 names wide begins.1 log))
     (sym same) (begins.3 tells)) c.go_on.ensures)
 
 -- ---- an object is missing that the checkpoint maps
@@ -91,6 +91,7 @@ returns-in_ok-refuse_beside-in-Missing g c =
       from = tt;
       order = tt;
       places = tt;
+      table = tt;
       recovers = λ tells. tt;
       refused = λ tells.
           told_beside uuid geometry base read.rows names wide read.is old.objects missing error (begins tells)
@@ -121,6 +122,7 @@ returns-in_err-refuse_beside-in-Missing g c =
       from = tt;
       order = tt;
       places = tt;
+      table = tt;
       recovers = λ tells. tt;
       refused = λ tells.
           told_failed old.objects (expected_of uuid geometry) (IsRecoveryBegun uuid geometry base names) error failed.answer;

@@ -1,0 +1,60 @@
+-- Contract: what the table of a recovered list knows of the objects of a store.
+use Rattle.std.specs.Prelude.{◌≡◌, ℕ, ◌<◌, ◌≤◌, ◌↔◌, false, nat_eq, IsTrue, is_some, option_map, Option, Some, None, IfSome, List}
+use Rattle.std.specs.Prelude.{length}
+use Rattle.std.specs.List.{All}
+use Rattle.lsvd_objstore.specs.Objects.{Objects, found}
+use Rattle.extent_map.specs.declared.extent.Extent.{Extent}
+use Rattle.extent_map.specs.Extents.{place_at}
+use Rattle.object_format.specs.declared.expected.Expected.{Expected}
+use Rattle.object_format.specs.declared.header.Header.{Header}
+use Rattle.object_format.specs.declared.kind.Kind.TheVariants as kinds
+use Rattle.object_format.specs.Header.{IsObjectHeader}
+use Rattle.ckpt_format.specs.declared.place.StoredPlace.{StoredPlace}
+use Rattle.ckpt_format.specs.Places.{stored_on}
+use Rattle.object_stream.specs.Replay.{object_name}
+use Rattle.object_stream.specs.Stream.{Owners, is_own}
+use Rattle.stopped_volume.specs.Expected.{expected_alone}
+use Rattle.stopped_volume.specs.Objects.{landed_in}
+use Rattle.stopped_volume.specs.Opening.{IsCheckpointOf}
+use Rattle.object_table.specs.declared.row.ObjectRow.{ObjectRow}
+use Rattle.object_table.specs.Table.{row_of}
+use Rattle.volume_maps.specs.declared.place.ObjectPlace.{ObjectPlace}
+use Rattle.volume_maps.specs.Maps.{settled_at}
+use Rattle.object_uploads.specs.State.{QueueState}
+use Rattle.object_uploads.specs.Checkpoint.{mapped_place}
+
+-- The table of a list that begins with a checkpoint of this number: that is its newest, no removal is out, nothing is pinned, and
+-- as long as no object came after the checkpoint, it passed just those unmapped that have no live sector.
+pub record HasTableFrom (checkpoint : ℕ) (queue : QueueState) : Type 0 where
+  pub checkpoint_is : queue.maps.objects.checkpoint ≡ checkpoint
+  pub removal : queue.removal ≡ None
+  pub unpinned : All (λ (row : ObjectRow). row.pins ≡ 0) queue.maps.objects.rows
+  pub exact : queue.frontier ≡ checkpoint
+      → All (λ (row : ObjectRow). row.number < checkpoint → row.is_unmapped ≡ nat_eq row.live 0) queue.maps.objects.rows
+
+-- The table has just the objects that the store has up to the frontier, and says of each whether the newest checkpoint of the
+-- store, which has this number, came after it and does not map it. The list's map has the sectors of objects up to that
+-- checkpoint where its rows say.
+pub record KnowsObjects (volume : Expected) (objects : Objects) (base : ℕ) (queue : QueueState) : Type 0 where
+  pub known : (number : ℕ) → 1 ≤ number → number ≤ queue.frontier
+      → is_some (row_of number queue.maps.objects.rows) ≡ landed_in objects volume number
+  pub unmapped : (end : ℕ) (owned : Owners) → IsCheckpointOf volume objects base end owned → (number : ℕ)
+      → IfSome (row_of number queue.maps.objects.rows) (λ row.
+      IsTrue row.is_unmapped ↔ ((number < base) × ((k : ℕ) → is_own number (owned k) ≡ false)))
+  pub places : (end : ℕ) (owned : Owners) → (checkpoint : IsCheckpointOf volume objects base end owned)
+      → (k : ℕ) (place : ObjectPlace) → settled_at queue.maps k ≡ Some place → place.number ≤ base
+      → option_map mapped_place (place_at stored_on checkpoint.rows k) ≡ Some place
+
+-- The object of a place is in the store: its header is that of a data object or a copy, whose payload has such a place.
+pub record IsNamedThere (volume : Expected) (objects : Objects) (place : StoredPlace) : Type 0 where
+  pub bytes : List ℕ
+  pub present : found objects (object_name volume place.number) ≡ Some bytes
+  pub header : Header
+  pub is_header : IsObjectHeader bytes (length bytes) (expected_alone volume place.number) header
+  pub no_checkpoint : header.kind ≡ kinds.Checkpoint → ⊥
+  pub inside : place.place < header.payload
+
+-- each place of rows is in such a one
+abbrev pub AreNamedThere : (volume : Expected) → Objects → List (Extent StoredPlace) → Type 0
+AreNamedThere volume objects rows = (k : ℕ) (place : StoredPlace) → place_at stored_on rows k ≡ Some place
+    → IsNamedThere volume objects place
