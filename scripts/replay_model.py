@@ -42,6 +42,7 @@ class Entry:
 class Upload:
     """An object that is not acknowledged."""
 
+    is_checkpoint: bool = False
     is_out: bool = False
     was_begun: bool = False
 
@@ -66,6 +67,10 @@ class Volume:
     # for each object from 1 on, how many entries there are up to its end; and those of them that are not acknowledged
     ends: list = field(default_factory=lambda: [0])
     uploads: dict = field(default_factory=dict)
+    # the numbers of all checkpoints, the newest acknowledged one, and the objects that were removed
+    checkpoints: set = field(default_factory=lambda: {1})
+    newest: int = 1
+    removed: set = field(default_factory=set)
     # the place behind the last record, the last commit, and a later one of which the first half was made alone
     head: int = 0
     mark: Mark = field(default_factory=lambda: Mark(0, 0, 0, 0))
@@ -125,27 +130,66 @@ class Volume:
             return "busy"
         while end < len(self.entries) and not self.is_full(start, end):
             end += 1
+        return self.seal_object(end, is_checkpoint=False)
+
+    def seal_checkpoint(self):
+        if len(self.uploads) == MOST_OBJECTS:
+            return "busy"
+        return self.seal_object(self.ends[-1], is_checkpoint=True)
+
+    def seal_object(self, end, is_checkpoint):
         self.ends.append(end)
-        self.uploads[len(self.ends)] = Upload()
-        return f"sealed {len(self.ends)}"
+        number = len(self.ends)
+        self.uploads[number] = Upload(is_checkpoint)
+        if is_checkpoint:
+            self.checkpoints.add(number)
+        return f"sealed {number}"
+
+    def is_ready(self, number):
+        upload = self.uploads[number]
+        return not upload.is_out and (not upload.is_checkpoint or number == min(self.uploads))
 
     def begin_put(self):
-        ready = [number for number, upload in self.uploads.items() if not upload.is_out]
+        ready = [number for number in self.uploads if self.is_ready(number)]
         if not ready:
             return "none"
-        self.uploads[min(ready)] = Upload(True, True)
-        return f"put {min(ready)}"
+        number = min(ready)
+        self.uploads[number].is_out = self.uploads[number].was_begun = True
+        return f"put {number}"
 
     def is_out(self, number):
         return number in self.uploads and self.uploads[number].is_out
 
     def finish_put(self, number):
-        del self.uploads[number]
+        if self.uploads.pop(number).is_checkpoint:
+            self.newest = max(self.newest, number)
         return f"done {self.frontier()}"
 
     def fail_put(self, number):
         self.uploads[number].is_out = False
         return f"failed {number}"
+
+    # -- removals
+
+    def mapped(self):
+        """The objects in which the newest acknowledged checkpoint has a sector: a write in an object before it has one unless
+        later entries of such objects cover the whole of it."""
+        found, covered = set(), []
+        for number in range(self.newest - 1, 1, -1):
+            for entry in reversed(self.entries[self.ends[number - 2]:self.ends[number - 1]]):
+                rest = uncovered(covered, entry.lba, entry.lba + entry.sectors)
+                if rest and entry.is_write:
+                    found.add(number)
+                covered += rest
+        return found
+
+    def remove(self):
+        kept = self.mapped() | self.removed
+        lowest = next((number for number in range(1, self.newest) if number not in kept), None)
+        if lowest is None:
+            return "none"
+        self.removed.add(lowest)
+        return f"gone {lowest}"
 
     def info(self):
         return f"info {len(self.entries)} {len(self.ends)} {self.frontier()}"
@@ -209,10 +253,13 @@ class Volume:
         return [number for number, upload in self.uploads.items() if upload.was_begun]
 
     def land(self, letters):
-        """Drops the objects from the first missing one on, and tells how many entries the others have."""
+        """Drops the objects from the first missing one above the newest checkpoint on, and tells how many entries the others
+        have."""
         landed = {number for number, letter in zip(self.under_way(), letters) if letter == "y"}
-        missing = [number for number in self.uploads if number not in landed]
+        self.newest = max({self.newest} | (landed & self.checkpoints))
+        missing = [number for number in self.uploads if number not in landed and number > self.newest]
         del self.ends[min(missing, default=len(self.ends) + 1) - 1:]
+        self.checkpoints &= set(range(1, len(self.ends) + 1))
         return self.ends[-1]
 
     def mounted(self, kept):
@@ -236,10 +283,18 @@ class Volume:
         return self.mounted(end)
 
 
+def uncovered(covered, start, end):
+    """The parts of the sectors from one up to another that none of the covered ranges has."""
+    rest = [(start, end)]
+    for first, last in covered:
+        rest = [part for low, high in rest for part in ((low, min(high, first)), (max(low, last), high)) if part[0] < part[1]]
+    return rest
+
+
 # ---- scripts
 
 # how many words each command has
-WORDS = {"new": 5, "w": 4, "z": 3, "r": 3, "f": 1, "s": 1, "u": 1, "d": 2, "x": 2, "i": 1, "stop": 2}
+WORDS = {"new": 5, "w": 4, "z": 3, "r": 3, "f": 1, "s": 1, "u": 1, "d": 2, "x": 2, "c": 1, "k": 1, "i": 1, "stop": 2}
 WORDS |= {"crash": 4, "crash keep": 4, "crash lost": 4}
 
 
@@ -319,6 +374,10 @@ class Replay:
                 return volume.seal()
             case "u":
                 return volume.begin_put()
+            case "c":
+                return volume.seal_checkpoint()
+            case "k":
+                return volume.remove()
             case "i":
                 return volume.info()
             case "d" | "x":

@@ -1,15 +1,18 @@
 //! Times what a benchmark from outside the program cannot show: maps of extents in pages, steps of a volume,
-//! and its seals.
+//! its seals, checkpoints and removals.
 //!
-//! Maps stand beside trees of as many numbers, and seals beside plain copies of as many bytes. With the word
-//! `time` it makes a whole round and tells the processor time of each call. Without it the round is small and
-//! no time is told, so that what is written is always the same. It has no contract, since nothing is claimed
-//! of what is timed. It stands on `vol_core`, `extent_map` and the crates below them.
+//! Maps stand beside trees of as many numbers, and seals, also of checkpoints, beside plain copies of as
+//! many bytes. With the word `time` it makes a whole round and tells the processor time of each call; with a
+//! number it overwrites blocks so often, with checkpoints and removals, and tells what objects are left.
+//! Without a word the round is small and no time is told, so that what is written is always the same. It has
+//! no contract, since nothing is claimed of what is timed. It stands on `vol_core`, `extent_map` and the
+//! crates below them.
 #![tactic(auto)]
 
 mod clock;
 mod disk;
 mod error;
+mod history;
 mod maps;
 mod numbers;
 mod receipt;
@@ -18,10 +21,11 @@ mod volume;
 
 use clock::Report;
 use error::BenchError;
+use history::tell_history;
 use lsvd_base::Geometry;
 use maps::{time_pages, time_tree};
 use std::env;
-use steps::{time_looks, time_writes, write_up_to};
+use steps::{time_checkpoint, time_looks, time_writes, write_up_to};
 use volume::TimedVolume;
 
 // What is timed.
@@ -60,24 +64,48 @@ const SMALL: Round = Round {
     calls: 4,
 };
 
-fn main(rt: HostRuntime) -> Result<(), BenchError> {
-    let is_timed = is_timed(&rt)?;
-    let report = Report::new(is_timed);
-    let round = if is_timed { &WHOLE } else { &SMALL };
-    for rows in round.rows {
-        println!(rt; "{rows:>8} rows")?;
-        time_pages(&rt, report, *rows, round.calls)?;
-        time_tree(&rt, report, *rows, round.calls)?;
-    }
-    let mut volume = TimedVolume::new(rt.alloc(), round.geometry)?;
-    make_steps(&rt, report, round, &mut volume)
+// What the words ask for.
+enum Asked {
+    // A small round, of which no times are told.
+    Small,
+    // A whole round with its times.
+    Whole,
+    // So many overwrites, with checkpoints and removals.
+    History(u64),
 }
 
-// Whether the word `time` is given.
-fn is_timed(rt: &HostRuntime) -> Result<bool, BenchError> {
+fn main(rt: HostRuntime) -> Result<(), BenchError> {
+    match request_of(&rt)? {
+        Asked::Small => {
+            make_round(&rt, Report::new(false), &SMALL)?;
+            tell_history(&rt, 2_000)
+        }
+        Asked::Whole => make_round(&rt, Report::new(true), &WHOLE),
+        Asked::History(writes) => tell_history(&rt, writes),
+    }
+}
+
+// What the first word asks for: a number for a history of so many writes, another word for a whole round.
+fn request_of(rt: &HostRuntime) -> Result<Asked, BenchError> {
     let mut words = env::args(rt)?;
     let _program = words.next();
-    Ok(words.next().is_some())
+    Ok(match words.next() {
+        None => Asked::Small,
+        Some(word) => match word.parse::<u64>() {
+            Ok(writes) => Asked::History(writes),
+            Err(_) => Asked::Whole,
+        },
+    })
+}
+
+fn make_round(rt: &HostRuntime, report: Report, round: &Round) -> Result<(), BenchError> {
+    for rows in round.rows {
+        println!(rt; "{rows:>8} rows")?;
+        time_pages(rt, report, *rows, round.calls)?;
+        time_tree(rt, report, *rows, round.calls)?;
+    }
+    let mut volume = TimedVolume::new(rt.alloc(), round.geometry)?;
+    make_steps(rt, report, round, &mut volume)
 }
 
 // Times steps. The looks find the last writes in the log, and the others in objects.
@@ -94,6 +122,7 @@ fn make_steps(
         let more = volume.writes().wrapping_add(round.calls);
         write_up_to(rt.alloc(), volume, more)?;
         time_looks(rt, report, volume, round.calls)?;
+        time_checkpoint(rt, report, volume)?;
     }
     Ok(())
 }

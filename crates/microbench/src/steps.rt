@@ -77,6 +77,38 @@ fn body(alloc: Global) -> Result<Body, AllocError> {
     Body::filled(alloc, SECTORS, 1)
 }
 
+/// Times the seal of a checkpoint, a plain copy of its bytes, its acknowledgement, and the removals that it
+/// allows.
+pub fn time_checkpoint(
+    rt: &HostRuntime,
+    report: Report,
+    volume: &mut TimedVolume,
+) -> Result<(), BenchError> {
+    volume.upload()?;
+    let start = Start::now(rt)?;
+    volume.seal_checkpoint()?;
+    report.tell(rt, start, 1, "a seal of a checkpoint")?;
+    let job = volume.take()?;
+    let start = Start::now(rt)?;
+    let mut bytes = Vec::new(rt.alloc());
+    bytes.extend_from_slice(job.object().as_bytes())?;
+    report.tell(rt, start, 1, "a plain copy of its bytes")?;
+    let start = Start::now(rt)?;
+    volume.done(job)?;
+    report.tell(rt, start, 1, "its acknowledgement")?;
+    time_removals(rt, report, volume)
+}
+
+fn time_removals(
+    rt: &HostRuntime,
+    report: Report,
+    volume: &mut TimedVolume,
+) -> Result<(), BenchError> {
+    let start = Start::now(rt)?;
+    let removed = volume.remove_all()?;
+    report.tell(rt, start, removed, "a removal")
+}
+
 /// Times looks in random places, each with its release.
 pub fn time_looks(
     rt: &HostRuntime,

@@ -7,9 +7,12 @@ use crate::numbers::Numbers;
 use crate::receipt::PlainReceipt;
 use commit_slot::LOG_START;
 use lsvd_base::{Body, Geometry, SECTOR_BYTES};
+use lsvd_names::ObjName;
+use lsvd_objstore::Receipt;
+use object_uploads::Job;
 use std::alloc::Global;
 use uuid::Uuid;
-use vol_core::{Event, Reply, Volume, create};
+use vol_core::{Event, Reply, Volume, create, new_list};
 
 /// The sectors of each write.
 pub const SECTORS: u64 = 8;
@@ -31,14 +34,16 @@ pub struct TimedVolume {
 }
 
 impl TimedVolume {
-    /// One without entries.
+    /// One without entries. No store has its first object, which has no sectors, so that no look finds it.
     pub fn new(alloc: Global, geometry: Geometry) -> Result<TimedVolume, BenchError> {
         if !geometry.is_within_limits() {
             return Err(BenchError::Refused);
         }
         let disk = PlainBytes::new(alloc, LOG_START + SECTOR_BYTES * geometry.log)?;
-        let created = create(alloc, disk, Uuid::from_bytes(UUID), geometry);
-        let volume = created.map_err(|(_, failed)| failed)?;
+        let uuid = Uuid::from_bytes(UUID);
+        let first = PlainReceipt::new(ObjName::object(uuid, 1), 0);
+        let objects = new_list(alloc, uuid, geometry, first)?;
+        let volume = create(alloc, disk, objects).map_err(|(_, failed)| failed)?;
         Ok(TimedVolume {
             volume,
             numbers: Numbers::new(0),
@@ -60,6 +65,17 @@ impl TimedVolume {
     /// Writes at a place in no order.
     pub fn write(&mut self, body: Body) -> Result<(), BenchError> {
         let lba = self.place(SECTORS);
+        self.write_at(lba, body)
+    }
+
+    /// Writes one of the first so many blocks, in no order, and answers which.
+    pub fn write_block(&mut self, blocks: u64, body: Body) -> Result<u64, BenchError> {
+        let block = self.numbers.below(blocks);
+        self.write_at(block.wrapping_mul(SECTORS), body)?;
+        Ok(block)
+    }
+
+    fn write_at(&mut self, lba: u64, body: Body) -> Result<(), BenchError> {
         let Reply::Entered(_) = self.step(Event::Write { lba, body })? else {
             return Err(BenchError::Answer);
         };
@@ -86,14 +102,58 @@ impl TimedVolume {
         Ok(())
     }
 
+    /// Seals a checkpoint.
+    pub fn seal_checkpoint(&mut self) -> Result<(), BenchError> {
+        match self.step(Event::SealCheckpoint)? {
+            Reply::Sealed(_) => Ok(()),
+            _ => Err(BenchError::Answer),
+        }
+    }
+
     /// Takes the lowest ready object and has it put at once. No store keeps it, so memory does not grow.
     pub fn put(&mut self) -> Result<(), BenchError> {
-        let Reply::Taken(job) = self.step(Event::TakeJob)? else {
-            return Err(BenchError::Answer);
-        };
+        let job = self.take()?;
+        self.done(job)
+    }
+
+    /// Takes the lowest ready object.
+    pub fn take(&mut self) -> Result<Job, BenchError> {
+        match self.step(Event::TakeJob)? {
+            Reply::Taken(job) => Ok(job),
+            _ => Err(BenchError::Answer),
+        }
+    }
+
+    /// Has the put of this object be done.
+    pub fn done(&mut self, job: Job) -> Result<(), BenchError> {
         let receipt = PlainReceipt::new(*job.name(), job.object().len());
         match self.step(Event::JobDone { job, receipt })? {
             Reply::Done(_) => Ok(()),
+            _ => Err(BenchError::Answer),
+        }
+    }
+
+    /// Removes each object that may be removed, and answers how many these were.
+    pub fn remove_all(&mut self) -> Result<u64, BenchError> {
+        let mut removed: u64 = 0;
+        for _ in 0..MOST {
+            if !self.remove()? {
+                break;
+            }
+            removed = removed.wrapping_add(1);
+        }
+        Ok(removed)
+    }
+
+    // Removes the lowest object that may be removed. Answers whether there was one.
+    fn remove(&mut self) -> Result<bool, BenchError> {
+        let Reply::Removing(receipt) = self.step(Event::TakeRemove)? else {
+            return Ok(false);
+        };
+        let number = receipt.name().number;
+        drop(receipt);
+        match self.step(Event::RemoveDone { number })? {
+            Reply::Removed => Ok(true),
             _ => Err(BenchError::Answer),
         }
     }

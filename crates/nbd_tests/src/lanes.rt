@@ -47,8 +47,8 @@ fn add_link(alloc: Global, links: &mut Vec<MemLink>, askings: &[Asking]) -> Resu
 /// Tells what is sent to each, and that no third one comes.
 pub fn tell_clients(rt: &HostRuntime) -> Result<(), TestError> {
     let mut listener = listener_of(rt.alloc())?;
-    let mut device = device_of(rt.alloc(), None)?;
     let mut store = MemStore::new(rt.alloc());
+    let mut device = device_of(rt.alloc(), None, &mut store)?;
     let told = tell_three(rt, &mut device, &mut listener, &mut store);
     drop(device);
     drop(store);
@@ -105,9 +105,9 @@ pub fn tell_lanes(rt: &HostRuntime) -> Result<(), TestError> {
 }
 
 fn lane_of(alloc: Global, share: u64, failing: u64) -> Result<Lane, TestError> {
-    let volume = device_of(alloc, None)?.into_volume();
-    let mut listener = listener_of(alloc)?.failing_at(failing);
     let mut store = MemStore::new(alloc);
+    let volume = device_of(alloc, None, &mut store)?.into_volume();
+    let mut listener = listener_of(alloc)?.failing_at(failing);
     let closing = serve_volume(alloc, volume, &mut listener, &mut store, share);
     drop(listener);
     drop(store);

@@ -9,7 +9,7 @@ use nbd_session::{SessionEnd, serve_session};
 use std::alloc::{AllocError, Global};
 use test_output::TestError;
 use uuid::Uuid;
-use vol_core::create;
+use vol_recover::{CreateError, create};
 use volume_owner::a_new_volume_is_idle;
 use volume_server::OwnerDevice;
 
@@ -29,20 +29,34 @@ const SIZE: u64 = 4_096 + 512 * 64;
 /// The volume as the block device of sessions.
 pub type TestDevice = OwnerDevice<FuseDisk<MemDisk>, MemReceipt>;
 
-/// That of a new volume, on a disk that passes so many calls, or all.
-pub fn device_of(alloc: Global, fuse: Option<u64>) -> Result<TestDevice, TestError> {
+/// That of a new volume with this store, on a disk that passes so many calls, or all.
+pub fn device_of(
+    alloc: Global,
+    fuse: Option<u64>,
+    store: &mut MemStore,
+) -> Result<TestDevice, TestError> {
     let disk = MemDisk::new(alloc, SIZE)?;
     let _is_disk = disk.len();
     let disk = FuseDisk::new(disk, fuse);
-    match create(alloc, disk, Uuid::from_bytes(UUID), GEOMETRY) {
+    match create(alloc, disk, store, Uuid::from_bytes(UUID), GEOMETRY) {
         Ok(volume) => {
             a_new_volume_is_idle();
             let device = OwnerDevice::new(volume);
             Ok(device)
         }
-        Err((disk, failed)) => {
+        Err((disk, error)) => {
             drop(disk);
-            Err(failed.into())
+            Err(error_of(error))
+        }
+    }
+}
+
+// What a creation that fails is to these tests.
+fn error_of(error: CreateError) -> TestError {
+    match error {
+        CreateError::OutOfMemory => TestError::Memory,
+        CreateError::Exists | CreateError::StoreFault | CreateError::DeviceFault => {
+            TestError::Failed
         }
     }
 }
@@ -53,8 +67,8 @@ pub fn serve(
     link: &mut MemLink,
     fuse: Option<u64>,
 ) -> Result<SessionEnd, TestError> {
-    let mut device = device_of(alloc, fuse)?;
     let mut store = MemStore::new(alloc);
+    let mut device = device_of(alloc, fuse, &mut store)?;
     let end = serve_session(alloc, &mut device, link, &mut store);
     drop(device);
     drop(store);

@@ -47,8 +47,8 @@ pub record RecoveredOf (Tells : Type 0) (uuid : List ℕ) (geometry : Geometry) 
   pub names : HasAllNames objects found
   pub told : Tells → IfSome objects (λ objects. Recovers (expected_of uuid geometry) found.checkpoint objects found.log)
 
--- What a recovery is: it gives the list, or an error, which has its reason in what the store has, where bytes are told. Nothing
--- changes in the store, and a call of it that failed is counted once.
+-- What a recovery is that was given the names of the volume's objects in the store: it gives the list, or an error, which has its
+-- reason in what the store has, where bytes are told. Nothing changes in the store, and a call of it that failed is counted once.
 pub record RecoverOf (Tells : Type 0) (uuid : List ℕ) (geometry : Geometry) (old new : StoreState)
     (result : Result RecoveredState RecoverError) : Type 0 where
   pub found : IfOk result (RecoveredOf Tells uuid geometry old.objects)

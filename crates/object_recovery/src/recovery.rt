@@ -1,6 +1,6 @@
 ghost use Rattle.std.specs.Prelude.{◌≡◌, None, IsTrue, IfOk, IfErr, IfSome, OnOk};
 ghost use Rattle.lsvd_base.specs.Limits.{is_within_limits};
-ghost use Rattle.lsvd_objstore.specs.Objects.{AreNamesOf};
+ghost use Rattle.lsvd_objstore.specs.Objects.{AreNamesOf, Lists};
 ghost use Rattle.lsvd_objstore.specs.Store.{StoreState, OnlyCounts};
 ghost use Rattle.lsvd_fault.specs.Faults.{Counts};
 ghost use Rattle.object_uploads.specs.Order.{IsUploads};
@@ -23,7 +23,7 @@ use crate::judging::{Reached, judge_past, judge_to_gap};
 use crate::recovered::Recovered;
 use lsvd_base::Geometry;
 use lsvd_names::{ObjName, a_uuid_has_sixteen_bytes};
-use lsvd_objstore::{Receipt, Store};
+use lsvd_objstore::{Names, Receipt, Store};
 use obj_log::ObjLog;
 use object_format::Expected;
 use std::alloc::Global;
@@ -34,6 +34,9 @@ use uuid::Uuid;
 /// missing number is counted as acknowledged. The store is only read: objects past that number are there
 /// until `Recovered::remove_past` removes them. No list takes an object of the number 2^64 - 1: where one
 /// goes on there, the list ends before it, and only then not before the first missing number.
+///
+/// The store is not listed: these are the names of all objects of the volume that it has (conditions), as
+/// its own listing gives them.
 ///
 /// An error comes where:
 ///
@@ -52,12 +55,14 @@ pub fn recover<S: Store>(
     store: &mut S,
     uuid: Uuid,
     geometry: Geometry,
+    names: Names,
 ) -> Result<Recovered<S::Receipt>, RecoverError>
-    requires { IsTrue (is_within_limits geometry) }
+    requires limits { IsTrue (is_within_limits geometry) }
+    requires names { AreNamesOf uuid names }
+    requires listed { IfSome (S.state store.old).objects (λ objects. Lists uuid objects names) }
     ensures { RecoverOf (TellsBytes S.Receipt.state) uuid geometry (S.state store.old) (S.state store.new)
         result }
 {
-    let names = store.list(alloc, uuid)?;
     a_uuid_has_sixteen_bytes(uuid);
     let base = newest_checkpoint(alloc, store, &geometry, names.as_slice())?;
     let checkpoint = base.number;

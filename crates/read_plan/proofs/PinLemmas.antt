@@ -1,128 +1,76 @@
--- How often numbers are among ascending ones.
-use Rattle.std.proofs.Common.{◌≡◌, ◌≢◌, ℕ, suc, ◌+◌, ◌<◌, ◌≤◌, ◌==◌, true, cond, inl, inr, List, [], ◌∷◌, ◌++◌, length, get_or}
-use Rattle.std.proofs.Common.{take, refl, ap, subst}
-use Rattle.std.proofs.Common.{◌∙◌, arith}
-use Rattle.std.specs.Prelude.{Result, Ok, Err, MatchResult, IsTrue, ◌↔◌, nat_lt, is_ok}
-use Rattle.std.specs.List.{All, remove, list_all}
-use Rattle.std.specs.List.Sorted.{IsNonDecreasing, IsPermutation}
-use Rattle.std.proofs.lemmas.Bool.{cases_lt}
+-- Objects are pinned one after the other, and their pins are given back.
+use Rattle.std.proofs.Common.{◌≡◌, ℕ, zero, suc, ◌+◌, ◌<◌, ◌≤◌, ◌==◌, true, false, List, [], ◌∷◌, length, drop, get_or, refl, sym}
+use Rattle.std.proofs.Common.{subst, arith}
+use Rattle.std.specs.Prelude.{IsTrue, ◌↔◌, nat_lt}
+use Rattle.std.specs.List.{All, list_all}
+use Rattle.std.specs.List.Sorted.{IsStrictlyIncreasing}
 use Rattle.std.proofs.lemmas.Bool.Decides.{nat_tests}
-use Rattle.std.proofs.lemmas.List.{take_all}
-use Rattle.std.proofs.lemmas.List.Edits.{get_or-remove_below, get_or-remove_above, length-remove}
+use Rattle.std.proofs.lemmas.List.{drop_all}
 use Rattle.std.proofs.lemmas.List.Elements.{All-weaker}
-use Rattle.std.proofs.lemmas.List.Sorted.{sum_by-IsPermutation, IsNonDecreasingBy-from_default}
-use Rattle.std.proofs.lemmas.List.Sums.{AllPass-from_list_all, list_all-from_AllPass, sum_by-cons, sum_by-append, sum_by_more}
-use Rattle.std.proofs.lemmas.List.Sums.{sum_by-remove}
-use Rattle.std.proofs.lemmas.List.Sums.{get_or-le-sum_by}
-use Rattle.read_plan.specs.Pins.{times, ArePinned, AreUnpinned}
+use Rattle.std.proofs.lemmas.List.Kept.{AllPairs-from_increasing}
+use Rattle.std.proofs.lemmas.List.Sums.{AllPass-from_list_all, list_all-from_AllPass}
+use Rattle.object_table.specs.declared.row.ObjectRow.{ObjectRow}
+use Rattle.object_table.specs.Table.{row_of}
+use Rattle.object_uploads.specs.State.{UploadsState}
+use Rattle.object_uploads.specs.Queue.{pins_of}
+use Rattle.object_uploads.specs.Order.{IsUploads}
+use Rattle.object_uploads.specs.Removal.{HasChangedPins, ChangesPinsEach}
+use Rattle.object_uploads.proofs.PinsOf.{other_pins}
 
--- 1 for the number, and 0 for each other
-abbrev pub is_it : (number other : ℕ) → ℕ
-is_it number other = cond (other == number) 1 0
+-- the pins on the object of a number
+abbrev pub pins_on : UploadsState → (number : ℕ) → ℕ
+pins_on uploads number = pins_of (row_of number uploads.queue.maps.objects.rows)
 
--- numbers after others, in any order
-pub times_of_both : (old numbers new : List ℕ) → IsPermutation (old ++ numbers) new → ArePinned numbers old new
-times_of_both old numbers new moved = λ number.
-    sum_by-IsPermutation (is_it number) (old ++ numbers) new moved ∙ sum_by-append (is_it number) old numbers
+-- this holds of the pins on those of some objects that stand from an index on
+abbrev pub HoldsFrom : (ℕ → Type 0) → (numbers : List ℕ) → UploadsState → (index : ℕ) → Type 0
+HoldsFrom P numbers uploads index =
+    (k : ℕ) → index ≤ k → k < length numbers → P (pins_on uploads (get_or numbers k 0))
 
--- ---- where a number is found
+module _ (change : ObjectRow → ObjectRow) (numbers : List ℕ) where
+  -- it holds of the later ones while the pins of one are changed
+  pub holds_later : (P : ℕ → Type 0) (index : ℕ) (old new : UploadsState)
+      → ((row : ObjectRow) → (change row).number ≡ row.number) → IsStrictlyIncreasing numbers
+      → HasChangedPins change (get_or numbers index 0) old new → HoldsFrom P numbers old index
+      → HoldsFrom P numbers new (index + 1)
+  holds_later P index old new keeps ascending changes holds k later inside =
+      let below : get_or numbers index 0 < get_or numbers k 0 =
+      AllPairs-from_increasing numbers ascending index k 0 (omega (arith, later)) inside in
+      let differ : (get_or numbers index 0 == get_or numbers k 0) ≡ false = grind (arith, nat_tests, below) in
+      subst P (sym (other_pins change (get_or numbers index 0) (get_or numbers k 0) old new keeps differ changes))
+      (holds k (omega (arith, later)) inside)
 
-pub times_there : (number i : ℕ) (numbers : List ℕ) → i < length numbers → get_or numbers i 0 ≡ number → 0 < times number numbers
-times_there number i numbers inside is =
-    let least = get_or-le-sum_by (is_it number) numbers i 0 inside in
-    let one : is_it number (get_or numbers i 0) ≡ 1 = grind (arith, nat_tests) in
-    omega (arith, least, one)
+-- the changes of those from an index on begin with that of the one there
+changes_next : (change : ObjectRow → ObjectRow) (numbers : List ℕ) (index : ℕ) (old middle new : UploadsState)
+    → index < length numbers → HasChangedPins change (get_or numbers index 0) old middle → IsUploads middle
+    → ChangesPinsEach change (drop (suc index) numbers) middle new → ChangesPinsEach change (drop index numbers) old new
+changes_next change [] index old middle new inside changes is rest = absurd (omega (arith, inside))
+changes_next change (number ∷ numbers) zero old middle new inside changes is rest = (middle, changes, is, rest)
+changes_next change (number ∷ numbers) (suc index) old middle new inside changes is rest =
+    changes_next change numbers index old middle new (omega (arith, inside)) changes is rest
 
-pub times_nowhere : (number : ℕ) (numbers : List ℕ) → ((k : ℕ) → k < length numbers → get_or numbers k 0 ≢ number)
-    → times number numbers ≡ 0
-times_nowhere number [] absent = refl
-times_nowhere number (first ∷ rest) absent =
-    let not_first : first ≢ number = absent 0 (omega arith) in
-    let none : is_it number first ≡ 0 = grind (arith, nat_tests) in
-    let more = times_nowhere number rest (λ k less. absent (suc k) (omega arith)) in
-    sum_by-cons (is_it number) first rest ∙ omega (arith, none, more)
+pub changes_from : (change : ObjectRow → ObjectRow) (numbers : List ℕ) (index : ℕ) (old middle new : UploadsState)
+    → index < length numbers → HasChangedPins change (get_or numbers index 0) old middle → IsUploads middle
+    → ChangesPinsEach change (drop (index + 1) numbers) middle new → ChangesPinsEach change (drop index numbers) old new
+changes_from change numbers index old middle new inside changes is rest =
+    let next : index + 1 ≡ suc index = omega arith in
+    changes_next change numbers index old middle new inside changes is
+    (subst (λ n. ChangesPinsEach change (drop n numbers) middle new) next rest)
 
--- what a search among ascending numbers found
-abbrev pub IsFound : (number : ℕ) → List ℕ → Result ℕ ℕ → Type 0
-IsFound number numbers found =
-    MatchResult found (λ i. (i < length numbers) × (get_or numbers i 0 ≡ number))
-    (λ i. (i ≤ length numbers) × ((k : ℕ) → k < i → get_or numbers k 0 < number) ×
-    ((k : ℕ) → i ≤ k → k < length numbers → number < get_or numbers k 0))
+-- and past the last there are none
+pub no_changes : (change : ObjectRow → ObjectRow) (numbers : List ℕ) (index : ℕ) (uploads : UploadsState)
+    → length numbers ≤ index → ChangesPinsEach change (drop index numbers) uploads uploads
+no_changes change numbers index uploads past =
+    subst (λ list. ChangesPinsEach change list uploads uploads) (sym (drop_all index numbers past)) refl
 
-pub among_none : (number i : ℕ) (numbers : List ℕ) → ((k : ℕ) → k < i → get_or numbers k 0 < number)
-    → ((k : ℕ) → i ≤ k → k < length numbers → number < get_or numbers k 0) → times number numbers ≡ 0
-among_none number i numbers below above =
-    times_nowhere number numbers
-    (λ k less is. elim (cases_lt k i) [
-      | inl low ↦ (let h = below k low in omega (arith, h, is))
-      | inr high ↦
-          (let h = above k high less in omega (arith, h, is))
-    ])
-
-pub found_where_pinned : (number : ℕ) (numbers : List ℕ) (found : Result ℕ ℕ) → IsFound number numbers found
-    → is_ok found ≡ nat_lt 0 (times number numbers)
-found_where_pinned number numbers (Ok i) is = (let some = times_there number i numbers is.0 is.1 in grind (arith, nat_tests))
-found_where_pinned number numbers (Err i) is = (let none = among_none number i numbers is.1 is.2 in grind (arith, nat_tests))
-
--- numbers of which each is found
-pub pass_where_pinned : (numbers pins : List ℕ)
-    → IsTrue (list_all (λ number. nat_lt 0 (times number pins)) numbers) ↔ All (λ number. 0 < times number pins) numbers
-pass_where_pinned numbers pins = (
-  λ pass. All-weaker (λ number. nat_lt 0 (times number pins) ≡ true) (λ number. 0 < times number pins)
-      (λ number yes. grind (arith, nat_tests)) numbers (AllPass-from_list_all (λ number. nat_lt 0 (times number pins))
+-- each of some objects is pinned
+pub pass_where_pinned : (numbers : List ℕ) (uploads : UploadsState)
+    → IsTrue (list_all (λ number. nat_lt 0 (pins_on uploads number)) numbers)
+    ↔ All (λ number. 0 < pins_on uploads number) numbers
+pass_where_pinned numbers uploads = (
+  λ pass. All-weaker (λ number. nat_lt 0 (pins_on uploads number) ≡ true) (λ number. 0 < pins_on uploads number)
+      (λ number yes. grind (arith, nat_tests)) numbers (AllPass-from_list_all (λ number. nat_lt 0 (pins_on uploads number))
       numbers pass),
-  λ some. list_all-from_AllPass (λ number. nat_lt 0 (times number pins)) numbers
-      (All-weaker (λ number. 0 < times number pins) (λ number. nat_lt 0 (times number pins) ≡ true)
+  λ some. list_all-from_AllPass (λ number. nat_lt 0 (pins_on uploads number)) numbers
+      (All-weaker (λ number. 0 < pins_on uploads number) (λ number. nat_lt 0 (pins_on uploads number) ≡ true)
       (λ number yes. grind (arith, nat_tests)) numbers some),
 )
-
--- ---- one that is taken out
-
-pub out_once : (number i : ℕ) (numbers : List ℕ) → i < length numbers → get_or numbers i 0 ≡ number
-    → AreUnpinned (number ∷ []) numbers (remove numbers i)
-out_once number i numbers inside is = λ other.
-    let parts = sum_by-remove (is_it other) numbers i 0 inside in
-    let same : is_it other (get_or numbers i 0) ≡ is_it other number = ap (is_it other) is in
-    omega (arith, parts, same)
-
-pub none_out : (number : ℕ) (numbers : List ℕ) → times number numbers ≡ 0 → AreUnpinned (number ∷ []) numbers numbers
-none_out number numbers none = λ other. grind (arith, nat_tests)
-
-pub still_ascending : (numbers : List ℕ) (i : ℕ) → i < length numbers → IsNonDecreasing numbers
-    → IsNonDecreasing (remove numbers i)
-still_ascending numbers i inside order = IsNonDecreasingBy-from_default (λ x. x) (remove numbers i) 0
-    (λ a b less within.
-    let count = length-remove numbers i inside in
-    elim (cases_lt b i) [
-      | inl low ↦
-          let left = get_or-remove_below numbers i 0 a (omega arith) inside in
-          let right = get_or-remove_below numbers i 0 b low inside in
-          let h = order a b 0 less (omega (arith, count)) in
-          omega (arith, left, right, h)
-      | inr high ↦
-          let right = get_or-remove_above numbers i 0 b high inside in
-          elim (cases_lt a i) [
-            | inl front ↦
-                let left = get_or-remove_below numbers i 0 a front inside in
-                let h = order a (b + 1) 0 (omega arith) (omega (arith, count)) in
-                omega (arith, left, right, h)
-            | inr back ↦
-                let left = get_or-remove_above numbers i 0 a back inside in
-                let h = order (a + 1) (b + 1) 0 (omega arith) (omega (arith, count)) in
-                omega (arith, left, right, h)
-          ]
-    ])
-
--- some that were taken out, and one more
-pub out_more : (numbers first middle new : List ℕ) (i : ℕ) → i < length numbers → AreUnpinned (take i numbers) first middle
-    → AreUnpinned (get_or numbers i 0 ∷ []) middle new → AreUnpinned (take (i + 1) numbers) first new
-out_more numbers first middle new i inside before one = λ other.
-    let counted = sum_by_more (is_it other) numbers i 0 inside in
-    let a = before other in
-    let b = one other in
-    omega (arith, counted, a, b)
-
--- all of them were
-pub all_out : (numbers first new : List ℕ) (i : ℕ) → length numbers ≤ i → AreUnpinned (take i numbers) first new
-    → AreUnpinned numbers first new
-all_out numbers first new i past out = subst (λ some. AreUnpinned some first new) (take_all i numbers past) out

@@ -1,4 +1,3 @@
-pub mod Pins
 pub mod Plan
 pub mod Places
 pub mod Rows

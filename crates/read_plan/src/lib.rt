@@ -2,9 +2,9 @@
 //! is noted with what the store gave for them, to be fetched later.
 //!
 //! Its contract: a plan has the sectors as they were at the look, whatever is written or settled after it; a
-//! fetch reads the objects alone. The objects of plans are pinned meanwhile, so that none is removed. It
-//! stands on `obj_log` for the places of sectors, on `cache_log` for the log, and on `lsvd_objstore` for the
-//! store.
+//! fetch reads the objects alone. The objects of a plan are pinned in the list of the volume's objects until
+//! the plan is released, so that none is removed. It stands on `obj_log` for the places of sectors and for
+//! pins, on `cache_log` for the log, and on `lsvd_objstore` for the store.
 #![tactic(auto)]
 
 mod error;
@@ -12,12 +12,13 @@ mod laws;
 mod looking;
 mod objects;
 mod piece;
-mod pins;
+mod pinning;
 mod plan;
+mod releasing;
 mod rows;
 
 pub use error::LookError;
 pub use laws::a_plan_gives_its_sectors;
 pub use looking::look;
-pub use pins::Pins;
 pub use plan::Plan;
+pub use releasing::release;

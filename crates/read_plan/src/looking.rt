@@ -1,16 +1,19 @@
-ghost use Rattle.std.specs.Prelude.{◌≡◌, ◌+◌, ◌*◌, IfOk, OnOk, OnErr, IsErrOf, is_ok, length};
+ghost use Rattle.std.specs.Prelude.{◌≡◌, ℕ, ◌+◌, ◌*◌, ◌<◌, ◌^◌, IfOk, OnErr, IsErrOf, is_ok, length};
 ghost use Rattle.std.specs.List.{All};
 ghost use Rattle.extent_map.specs.Extents.{AllFit};
+ghost use Rattle.object_table.specs.Table.{row_of};
 ghost use Rattle.volume_maps.specs.Places.{volume_number};
+ghost use Rattle.object_uploads.specs.Queue.{pins_of};
+ghost use Rattle.object_uploads.specs.Order.{IsUploads};
+ghost use Rattle.object_uploads.specs.Removal.{PinsEach};
 ghost use Rattle.read_plan.specs.declared.error.LookError.TheVariants as errors;
 ghost use Rattle.read_plan.specs.Plan.{TellsWhole};
 ghost use Rattle.read_plan.specs.Places.{LogHasPlaces, ObjectsHavePlaces};
-ghost use Rattle.read_plan.specs.Pins.{ArePinned, HasSamePins};
 ghost use Rattle.read_plan.specs.Look.{MayLook, IsReadPlan, ReadsRange};
 
 use crate::error::LookError;
 use crate::objects::{numbers_of, pieces_of};
-use crate::pins::Pins;
+use crate::pinning::pin_each;
 use crate::plan::Plan;
 use crate::rows::read_rows;
 use cache_log::CacheLog;
@@ -22,39 +25,40 @@ use std::alloc::Global;
 
 /// Plans a read of `sectors` sectors from `lba` on: 1 to 65,536 of them, below 2^31 (a condition). What the
 /// log has of them is read at once, by one read of the device for each row of data in it; where objects have
-/// the others is noted with the receipts, and these objects are pinned once more. The log has the data of the
-/// places that its map gives, and the volume's own objects those of the places that theirs does (conditions).
+/// the others is noted with the receipts, and then each of these objects is pinned once more. The log has the
+/// data of the places that its map gives, and the volume's own objects those of the places that theirs does;
+/// each object has fewer than 2^64 - 1 pins (conditions).
 ///
 /// `Fault` comes where a read failed, which was the last that was made, and `OutOfMemory` where memory ran
-/// out: all memory is taken before the first read. After an error the same objects are pinned as before.
+/// out: all memory is taken before the first read. After an error the objects are as before.
 pub fn look<D: Disk, R: Receipt>(
     alloc: Global,
-    objects: &ObjLog<R>,
+    objects: &mut ObjLog<R>,
     log: &mut CacheLog<D>,
-    pins: &mut Pins,
     lba: u64,
     sectors: u64,
 ) -> Result<Plan<R>, LookError>
     requires range { MayLook lba sectors }
-    requires log { LogHasPlaces lba sectors objects.now.uploads.queue.maps log.old }
-    requires objects { ObjectsHavePlaces lba sectors objects.now.uploads.queue }
-    ensures plan { IfOk result (IsReadPlan lba sectors objects.now log.old) }
+    requires log { LogHasPlaces lba sectors objects.old.uploads.queue.maps log.old }
+    requires objects { ObjectsHavePlaces lba sectors objects.old.uploads.queue }
+    requires pins { (number : ℕ) → pins_of (row_of number objects.old.uploads.queue.maps.objects.rows) + 1
+        < 2 ^ 64 }
+    ensures plan { IfOk result (IsReadPlan lba sectors objects.old log.old) }
     ensures whole { IfOk result (λ plan. All (λ piece. TellsWhole piece.receipt) plan.pieces) }
-    ensures pinned { IfOk result (λ plan. ArePinned plan.objects pins.old pins.new) }
-    ensures same_pins { OnErr result (HasSamePins pins.old pins.new) }
+    ensures pinned { IfOk result (λ plan. PinsEach plan.objects objects.old.uploads objects.new.uploads) }
+    ensures batch { objects.new.batch ≡ objects.old.batch }
+    ensures same { OnErr result (objects.new ≡ objects.old) }
+    ensures order { IsUploads objects.old.uploads }
     ensures reads { (IsErrOf result errors.OutOfMemory → ⊥)
-        → ReadsRange lba sectors objects.now.uploads.queue.maps (is_ok result) log.old log.new }
+        → ReadsRange lba sectors objects.old.uploads.queue.maps (is_ok result) log.old log.new }
     ensures memory { IsErrOf result errors.OutOfMemory → log.new ≡ log.old }
 {
     let rows = objects.uploads().look(alloc, lba, sectors)?;
     let pieces = pieces_of(alloc, objects, &rows, lba)?;
     let numbers = numbers_of(alloc, &rows)?;
     let bytes = vec![in alloc; 0; (SECTOR_BYTES * sectors) as usize]?;
-    pins.pin(&numbers)?;
-    let Ok(bytes) = read_rows(log, &rows, lba, bytes) else {
-        pins.unpin(&numbers);
-        return Err(LookError::Fault);
-    };
+    let bytes = read_rows(log, &rows, lba, bytes)?;
+    pin_each(objects.uploads_mut(), &numbers);
     Ok(Plan {
         history_length: objects.batch().next_seq(),
         bytes,

@@ -1,4 +1,8 @@
+pub mod AsFoundLemmas
 pub mod RestLemmas
+pub mod TableLemmas
+pub mod MissingLemmas
+pub mod TellLemmas
 pub mod ListLemmas
 pub mod EntryLemmas
 pub mod FoundLemmas

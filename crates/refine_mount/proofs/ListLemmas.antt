@@ -1,14 +1,13 @@
 -- Each list that was recovered shows some plain volume, which opens after the last of its objects.
-use Rattle.std.proofs.Common.{◌≡◌, ℕ, ◌+◌, ◌-◌, ◌<◌, ◌≤◌, ◌&&◌, true, inl, inr, IsTrue, Option, Some, None, IfSome, List, []}
-use Rattle.std.proofs.Common.{length, take, map}
-use Rattle.std.proofs.Common.{get_or}
-use Rattle.std.proofs.Common.{refl, sym, ◌∙◌, ap, subst, arith}
-use Rattle.std.specs.List.{range_with_len}
+use Rattle.std.proofs.Common.{◌≡◌, ℕ, ◌+◌, ◌-◌, ◌<◌, ◌≤◌, ◌&&◌, not, nat_lt, Bool, true, false, inl, inr, IsTrue, Option, Some}
+use Rattle.std.proofs.Common.{None, List, [], length, take, get_or, refl, sym, ◌∙◌, ap, subst, arith}
+use Rattle.std.specs.Prelude.{IsSome, IfSome, is_some}
+use Rattle.std.specs.List.{All, list_any}
 use Rattle.std.proofs.Math.Seq.{take-nil, drop-nil}
 use Rattle.std.proofs.lemmas.Bool.{cases_lt}
-use Rattle.std.proofs.lemmas.List.{get_or_past}
-use Rattle.std.proofs.lemmas.List.Elements.{All-nil}
-use Rattle.std.proofs.lemmas.List.FromFn.{get_or-map-range_with_len, length-map-range_with_len}
+use Rattle.std.proofs.lemmas.Bool.Decides.{nat_tests}
+use Rattle.std.proofs.lemmas.List.Elements.{All-nil, All-weaker}
+use Rattle.std.proofs.lemmas.List.FromFn.{length-map-range_with_len}
 use Rattle.lsvd_base.specs.declared.geometry.Geometry.{Geometry}
 use Rattle.lsvd_base.specs.declared.entry.Entry.{Entry}
 use Rattle.lsvd_base.specs.Image.{Image, after}
@@ -17,64 +16,45 @@ use Rattle.lsvd_base.specs.Range.{is_in_range}
 use Rattle.upload_window.specs.Window.{WindowState}
 use Rattle.object_stream.specs.declared.object.StreamObject.{StreamObject}
 use Rattle.object_stream.specs.declared.owner.Owner.{Owner}
-use Rattle.object_stream.specs.Stream.{Stream, owners, after_objects, end_after, end_at, last_number}
+use Rattle.object_stream.specs.Stream.{Stream, owners, is_own, after_objects, end_after, end_at, last_number}
 use Rattle.object_stream.specs.Laws.{from_object}
+use Rattle.object_table.specs.declared.row.ObjectRow.{ObjectRow}
+use Rattle.object_table.specs.Table.{row_of}
 use Rattle.volume_maps.specs.declared.place.ObjectPlace.{ObjectPlace}
 use Rattle.volume_maps.specs.Places.{left_at}
 use Rattle.volume_maps.specs.Maps.{settled_at}
 use Rattle.volume_maps.specs.Laws.{place_owner}
+use Rattle.volume_maps.specs.Kept.{is_live}
 use Rattle.object_uploads.specs.State.{QueueState}
-use Rattle.object_uploads.specs.Queue.{stored_at}
-use Rattle.object_uploads.specs.Order.{PlaceFits, IsUploads}
+use Rattle.object_uploads.specs.Order.{PlaceFits, AreKnown, IsUploads}
 use Rattle.object_uploads.specs.Stream.{IsPlacedIn, AreSealedOf, AreOfStream}
 use Rattle.object_uploads.specs.Image.{HasImage}
 use Rattle.obj_log.specs.State.{ObjLogState}
 use Rattle.obj_log.specs.Changes.{expected_of_volume}
 use Rattle.plain_disk.specs.Log.{empty_from}
 use Rattle.plain_disk.specs.Cache.{cache_with}
+use Rattle.plain_disk.specs.Removals.{maps, has}
 use Rattle.plain_disk.specs.State.{PlainState, stream_in, frontier_end}
 use Rattle.plain_disk.specs.Valid.{IsUnneeded, IsPlainCheckpoint}
-use Rattle.plain_disk.proofs.CheckpointLemmas.{owns_some}
 use Rattle.plain_disk.proofs.EventLemmas.{log_has_sectors}
-use Rattle.plain_disk.proofs.FirstLemmas.{IsNoCheckpoint}
 use Rattle.object_recovery.specs.Recovery.{IsListUpTo}
-use Rattle.object_recovery.specs.Places.{IsInsideObject, HasPlacesInside}
+use Rattle.object_recovery.specs.Places.{HasPlacesInside}
+use Rattle.object_recovery.specs.Table.{HasTableFrom}
 use Rattle.object_recovery.proofs.SomeImageLemmas.{list_has_some_image}
 use Rattle.refine_objects.specs.Shows.{ShowsObjects}
+use Rattle.refine_objects.specs.Table.{passes_unmapped, ShowsTable}
 use Rattle.refine_mount.specs.Rest.{IsAtRest}
 use Rattle.refine_mount.specs.Laws.{ListShowsSome}
-
--- ---- the owners
-
--- what a map may have at a sector of the volume
-abbrev StandsInside : (sectors k : ℕ) → QueueState → ObjectPlace → Type 0
-StandsInside sectors k queue place = (k < sectors) × (place.level ≡ 0) × IsInsideObject (stored_at queue place) place.sector
-
--- the owners that the objects' map gives
-abbrev held_owners : (sectors : ℕ) → QueueState → List (Option Owner)
-held_owners sectors queue = map (λ k. place_owner (settled_at queue.maps k)) (range_with_len 0 sectors)
-
-none_held_past : (sectors k : ℕ) (queue : QueueState) (place : Option ObjectPlace)
-    → ((some : ObjectPlace) → place ≡ Some some → StandsInside sectors k queue some) → sectors ≤ k → place_owner place ≡ None
-none_held_past sectors k queue None inside past = refl
-none_held_past sectors k queue (Some place) inside past = absurd (omega (arith, (inside place refl).0))
-
-held_owner_at : (sectors : ℕ) (queue : QueueState) → HasPlacesInside sectors queue → (k : ℕ)
-    → place_owner (settled_at queue.maps k) ≡ get_or (held_owners sectors queue) k None
-held_owner_at sectors queue inside k =
-    let f : ℕ → Option Owner = λ k. place_owner (settled_at queue.maps k) in
-    elim (cases_lt k sectors) [
-      | inl low ↦ sym (get_or-map-range_with_len f 0 sectors k k None low (omega arith))
-      | inr past ↦
-          none_held_past sectors k queue (settled_at queue.maps k) (inside k) past
-          ∙ sym (get_or_past (held_owners sectors queue) k None (omega (arith, length-map-range_with_len f 0 sectors)))
-    ]
+use Rattle.refine_mount.proofs.TableLemmas.{none_pinned}
+use Rattle.refine_mount.proofs.MissingLemmas.{missing_in, has_missing, all_missing, missing_is_below}
+use Rattle.refine_mount.proofs.TellLemmas.{Tells, held_owners, held_owner_at, own_live, live_has_row, live_is_mapped, some_tell}
 
 -- ---- the volume
 
--- it opens with this image after the last object of the list, and nothing was done since
-abbrev opened_after : Geometry → (checkpoint number end : ℕ) → Image → QueueState → PlainState
-opened_after geometry checkpoint number end image queue = record {
+-- It opens with this image after the last object of the list, and nothing was done since. Its newest checkpoint has these owners,
+-- and the objects that have no row were removed.
+abbrev opened_after : Geometry → (checkpoint number end : ℕ) → Image → QueueState → List (Option Owner) → PlainState
+opened_after geometry checkpoint number end image queue owned = record {
   geometry = geometry;
   opening = image;
   number = number;
@@ -83,10 +63,10 @@ opened_after geometry checkpoint number end image queue = record {
   entries = [];
   objects = [];
   window = record { last = number; objects = [] };
-  checkpoint = record { number = checkpoint; owned = held_owners geometry.sectors queue };
+  checkpoint = record { number = checkpoint; owned = owned };
   pins = [];
-  removed = [];
-  given_out = [];
+  removed = missing_in queue.maps.objects.rows number;
+  given_out = missing_in queue.maps.objects.rows number;
   removal = None;
   cache = cache_with (empty_from geometry.log end);
 }
@@ -97,66 +77,153 @@ end_of_none plain none number =
     ap (λ (objects : List StreamObject). end_after plain.end (take (number - plain.number) objects)) none
     ∙ ap (end_after plain.end) (take-nil (number - plain.number))
 
--- its checkpoint holds the owners that it opens with
-opened_checkpoint : (geometry : Geometry) (checkpoint number end : ℕ) (image : Image) (queue : QueueState)
-    → 0 < checkpoint → checkpoint ≤ number
-    → IsPlainCheckpoint (stream_in (opened_after geometry checkpoint number end image queue)) number []
-    (opened_after geometry checkpoint number end image queue).checkpoint
-opened_checkpoint geometry checkpoint number end image queue some from =
-    let plain = opened_after geometry checkpoint number end image queue in
-    let owned = held_owners geometry.sectors queue in
-    let opening = (stream_in plain).opening in
-    record {
-      numbered = some;
-      reached = from;
-      holds = λ first k. ap (λ (objects : List StreamObject). after_objects number end [] opening objects k)
-          (sym (take-nil (checkpoint - number)));
-      still = λ before other k early owns. owns_some other owned k owns;
-      unneeded = All-nil (IsUnneeded plain.checkpoint);
-    }
+module _ (uuid : List ℕ) (geometry : Geometry) (checkpoint number end : ℕ) (image : Image) (queue : QueueState)
+    (owned : List (Option Owner)) (some : 0 < checkpoint) (from : checkpoint ≤ number) (reached : queue.frontier ≡ number)
+    (known : AreKnown uuid queue) (inside : HasPlacesInside geometry.sectors queue) (table : HasTableFrom checkpoint queue)
+    (tells : Tells checkpoint queue owned) where
+  abbrev rows : List ObjectRow
+  rows = queue.maps.objects.rows
 
-opened_is_at_rest : (geometry : Geometry) (checkpoint number end : ℕ) (image : Image) (queue : QueueState)
-    → IsTrue (is_within_limits geometry) → 0 < checkpoint → checkpoint ≤ number → length image ≡ geometry.sectors
-    → IsAtRest geometry checkpoint end (opened_after geometry checkpoint number end image queue)
-opened_is_at_rest geometry checkpoint number end image queue limits some from sectors =
-    let size = log_has_sectors geometry limits in
-    let owned = length-map-range_with_len (λ k. place_owner (settled_at queue.maps k)) 0 geometry.sectors in
-    let plain = opened_after geometry checkpoint number end image queue in
-    let ends : end_at (stream_in plain) number ≡ end = end_of_none plain refl number in
-    let last_ends = end_of_none plain refl (last_number (stream_in plain)) in
-    record {
-      valid = record {
-        limits = limits;
-        sectors = sectors;
-        owned = omega (arith, owned);
-        in_range = All-nil (λ entry. is_in_range geometry entry ≡ true);
-        stream = record { ends = tt; within = omega (arith, last_ends) };
-        window = record {
-          order = omega arith;
-          starts = All-nil (λ object. IsTrue object.is_started
-              → IsTrue object.was_started);
+  abbrev volume : PlainState
+  volume = opened_after geometry checkpoint number end image queue owned
+
+  -- its checkpoint holds the owners that it opens with, where it opens there
+  opened_holds : number ≤ checkpoint → (k : ℕ) → get_or owned k None ≡ owners (stream_in volume) checkpoint k
+  opened_holds first k =
+      tells.holds (omega (arith, reached, first, from)) k
+      ∙ (held_owner_at geometry.sectors queue inside k
+      ∙ ap (λ (objects : List StreamObject). after_objects number end [] (stream_in volume).opening objects k)
+      (sym (take-nil (checkpoint - number))))
+
+  -- it maps each object before it that owns one of them
+  mapped_by : (other k : ℕ) (found : Option ObjectRow) → row_of other rows ≡ found → IsSome found → other < checkpoint
+      → is_live other (settled_at queue.maps k) ≡ true → list_any (is_own other) owned ≡ true
+  mapped_by other k None at there early live = absurd cc
+  mapped_by other k (Some row) at there early live =
+      tells.mapped other row at early
+      ∙ ap not (live_is_mapped other k queue row known.counted known.unmapped at live)
+
+  opened_still : (other k : ℕ) → other < checkpoint → is_own other ((stream_in volume).opening k) ≡ true
+      → maps volume.checkpoint other ≡ true
+  opened_still other k early owns =
+      let live : is_live other (settled_at queue.maps k) ≡ true =
+      sym (own_live other (settled_at queue.maps k))
+      ∙ (ap (is_own other) (held_owner_at geometry.sectors queue inside k) ∙ owns) in
+      mapped_by other k (row_of other rows) refl (live_has_row other k queue known.counted live) early live
+
+  -- an object that is missing was removed before it
+  missing_early : (other : ℕ) → other ≤ number → row_of other rows ≡ None → other < checkpoint
+  missing_early other high none =
+      let below = missing_is_below uuid queue other known (omega (arith, some, table.checkpoint_is))
+      (omega (arith, high, reached)) none in
+      omega (arith, below, table.checkpoint_is)
+
+  opened_unneeded : All (IsUnneeded volume.checkpoint) volume.given_out
+  opened_unneeded =
+      All-weaker (λ other. (1 ≤ other) × (other ≤ number) × (row_of other rows ≡ None)) (IsUnneeded volume.checkpoint)
+      (λ other missing. record {
+        before = missing_early other missing.1 missing.2;
+        unmapped = tells.none other missing.2;
+      }) volume.given_out (all_missing rows number)
+
+  opened_checkpoint : IsPlainCheckpoint (stream_in volume) number volume.given_out volume.checkpoint
+  opened_checkpoint = record {
+    numbered = some;
+    reached = from;
+    holds = opened_holds;
+    still = λ before. opened_still;
+    unneeded = opened_unneeded;
+  }
+
+  pub opened_is_at_rest : IsTrue (is_within_limits geometry) → length image ≡ geometry.sectors
+      → IsAtRest geometry checkpoint end volume
+  opened_is_at_rest limits sectors =
+      let size = log_has_sectors geometry limits in
+      let count = length-map-range_with_len (λ k. place_owner (settled_at queue.maps k)) 0 geometry.sectors in
+      let ends : end_at (stream_in volume) number ≡ end = end_of_none volume refl number in
+      let last_ends = end_of_none volume refl (last_number (stream_in volume)) in
+      record {
+        valid = record {
+          limits = limits;
+          sectors = sectors;
+          owned = omega (arith, count);
+          in_range = All-nil (λ entry. is_in_range geometry entry ≡ true);
+          stream = record { ends = tt; within = omega (arith, last_ends) };
+          window = record {
+            order = omega arith;
+            starts = All-nil (λ object. IsTrue object.is_started
+                → IsTrue object.was_started);
+          };
+          last = omega arith;
+          opened = omega arith;
+          begun = All-nil (λ object. IsTrue (object.was_started && object.is_checkpoint) → object.number ≤ number + 1);
+          checkpoint = opened_checkpoint;
+          log = record {
+            counted = omega arith;
+            room = record { limit = size.1; head = size.0; used = omega arith };
+            last = record { order = omega arith; tail = omega (arith, ends); head = omega arith; place = size.0 };
+            unfinished = tt;
+          };
+          size = refl;
         };
-        last = omega arith;
-        opened = omega arith;
-        begun = All-nil (λ object. IsTrue (object.was_started && object.is_checkpoint) → object.number ≤ number + 1);
-        checkpoint = opened_checkpoint geometry checkpoint number end image queue some from;
-        log = record {
-          counted = omega arith;
-          room = record { limit = size.1; head = size.0; used = omega arith };
-          last = record { order = omega arith; tail = omega (arith, ends); head = omega arith; place = size.0 };
-          unfinished = tt;
-        };
-        size = refl;
-      };
-      geometry_is = refl;
-      checkpoint_is = refl;
-      alone = record { none_open = All-nil IsNoCheckpoint; none_removed = refl; none_given_out = refl; none_out = refl };
-      none = refl;
-      frontier = ends;
-      history = omega arith;
-      pins = refl;
-      cache = refl;
-    }
+        geometry_is = refl;
+        checkpoint_is = refl;
+        none = refl;
+        frontier = ends;
+        history = omega arith;
+        pins = refl;
+        none_out = refl;
+        gone = refl;
+        cache = refl;
+      }
+
+  -- ---- the table shows it
+
+  row_shown : (other : ℕ) (found : Option ObjectRow) → row_of other rows ≡ found
+      → IfSome found (λ row. row.is_unmapped ≡ passes_unmapped volume.checkpoint other)
+  row_shown other None at = tt
+  row_shown other (Some row) at =
+      elim (cases_lt other checkpoint) [
+        | inl low ↦
+            (let early : nat_lt other checkpoint ≡ true = grind (arith, nat_tests) in
+            sym (ap (λ b. b && not (maps volume.checkpoint other)) early
+            ∙ (ap not (tells.mapped other row at low) ∙ not-not row.is_unmapped)))
+        | inr high ↦
+            (let late : nat_lt other checkpoint ≡ false = grind (arith, nat_tests) in
+            late_mapped other row at high ∙ sym (ap (λ b. b && not (maps volume.checkpoint other)) late))
+      ]
+    where
+      not-not : (b : Bool) → not (not b) ≡ b
+      not-not true = refl
+      not-not false = refl
+
+      late_mapped : (other : ℕ) (row : ObjectRow) → row_of other rows ≡ Some row → checkpoint ≤ other → row.is_unmapped ≡ false
+      late_mapped other row at high =
+          elim row.is_unmapped as (λ b. row.is_unmapped ≡ b → b ≡ false) [
+            | true ↦ λ unmapped. (
+                let low = (known.unmapped other (row, at, unmapped)).1 in
+                absurd (omega (arith, low, high, table.checkpoint_is)))
+            | false ↦ λ mapped. refl
+          ] refl
+
+  pub opened_shows_table : ShowsTable queue volume
+  opened_shows_table = record {
+    checkpoint = table.checkpoint_is;
+    removal = table.removal;
+    known = λ other low high. known_here other low (omega (arith, high, reached));
+    unmapped = λ other. row_shown other (row_of other rows) refl;
+    pins = λ other. none_pinned rows other (row_of other rows) refl table.unpinned;
+    free = tt;
+    gone = All-weaker (λ other. (1 ≤ other) × (other ≤ number) × (row_of other rows ≡ None)) (λ other. other < checkpoint)
+        (λ other missing. missing_early other missing.1 missing.2) volume.removed (all_missing rows number);
+  }
+    where
+      there : (b : Bool) → b ≡ not (not b)
+      there true = refl
+      there false = refl
+
+      known_here : (other : ℕ) → 1 ≤ other → other ≤ number → is_some (row_of other rows) ≡ not (has volume.removed other)
+      known_here other low high = there (is_some (row_of other rows)) ∙ ap not (sym (has_missing rows number other low high))
 
 -- ---- the list shows it
 
@@ -168,9 +235,10 @@ none_placed stream sectors last k (Some place) same fits = λ own past. absurd (
 
 module _ (uuid : List ℕ) (geometry : Geometry) (checkpoint number end : ℕ) (log : ObjLogState)
     (list : IsListUpTo uuid geometry number end log) (order : IsUploads log.uploads)
-    (inside : HasPlacesInside geometry.sectors log.uploads.queue) (image : Image) (has : HasImage image log.uploads.queue) where
+    (inside : HasPlacesInside geometry.sectors log.uploads.queue) (image : Image) (has : HasImage image log.uploads.queue)
+    (owned : List (Option Owner)) where
   abbrev opened : PlainState
-  opened = opened_after geometry checkpoint number end image log.uploads.queue
+  opened = opened_after geometry checkpoint number end image log.uploads.queue owned
 
   abbrev stream : Stream
   stream = stream_in opened
@@ -218,9 +286,15 @@ module _ (uuid : List ℕ) (geometry : Geometry) (checkpoint number end : ℕ) (
       }
 
 pub list_shows_some : ListShowsSome
-list_shows_some uuid geometry checkpoint number end log limits some from list order inside =
-    let image = list_has_some_image geometry.sectors log inside in (
-      opened_after geometry checkpoint number end image.0 log.uploads.queue,
-      opened_is_at_rest geometry checkpoint number end image.0 log.uploads.queue limits some from image.1,
-      list_shows uuid geometry checkpoint number end log list order inside image.0 image.2,
+list_shows_some uuid geometry checkpoint number end log limits some from list order inside table =
+    let queue = log.uploads.queue in
+    let known = order.known in
+    let image = list_has_some_image geometry.sectors log inside in
+    let told = some_tell log.uploads.uuid geometry.sectors checkpoint queue known inside table in (
+      opened_after geometry checkpoint number end image.0 queue told.0,
+      opened_is_at_rest log.uploads.uuid geometry checkpoint number end image.0 queue told.0 some from list.frontier known inside
+          table told.1 limits image.1,
+      list_shows uuid geometry checkpoint number end log list order inside image.0 image.2 told.0,
+      opened_shows_table log.uploads.uuid geometry checkpoint number end image.0 queue told.0 some from list.frontier known inside
+          table told.1,
     )

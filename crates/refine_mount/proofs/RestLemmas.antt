@@ -16,37 +16,13 @@ use Rattle.object_uploads.specs.Image.{HasImage}
 use Rattle.plain_disk.specs.Log.{empty_from}
 use Rattle.plain_disk.specs.Cache.{PlainCache, cache_with}
 use Rattle.plain_disk.specs.State.{PlainState, stream_in, history_length, frontier_end}
-use Rattle.plain_disk.specs.Stops.{recovered_end, mounted_kept, mounted_lost}
 use Rattle.plain_disk.specs.Valid.{IsPlainVolume, IsPlainCheckpoint, IsPlainLog}
 use Rattle.plain_disk.proofs.EndLemmas.{ends_within}
 use Rattle.plain_disk.proofs.EventLemmas.{log_has_sectors}
-use Rattle.plain_disk.proofs.FirstLemmas.{landed_is_first, none_is_absent, cut_keeps_first}
 use Rattle.plain_disk.proofs.MountLemmas.{cut_is, cut_count}
 use Rattle.refine_objects.specs.Shows.{settled_image}
 use Rattle.refine_mount.specs.Mounted.{end_of_object, cut_to_object, sizes_with}
-use Rattle.refine_mount.specs.Laws.{MountsByNumber, MountedIsAtRest, RecoveredShowsObjects}
-
--- ---- what a mount is to make
-
-pub mounts_by_number : MountsByNumber
-mounts_by_number plain landed kept first =
-    let newest = landed_is_first plain landed first in
-    let none = none_is_absent plain landed first in
-    let removed = none ∙ sym first.none_removed in
-    let given_out = none ∙ sym first.none_given_out in
-    let end : ℕ = recovered_end landed plain in (
-      λ i. record (mounted_kept landed kept plain) {
-        checkpoint = newest i;
-        removed = removed i;
-        given_out = given_out i;
-      },
-      λ size i. record (mounted_lost landed plain) {
-        checkpoint = newest i;
-        removed = removed i;
-        given_out = given_out i;
-        cache = cache_with (empty_from (size i) end);
-      },
-    )
+use Rattle.refine_mount.specs.Laws.{MountedIsAtRest, RecoveredShowsObjects}
 
 -- ---- the volume at rest
 
@@ -123,11 +99,12 @@ mounted_is_at_rest uuid log plain number objects valid has limits =
           (cache_with (empty_from log end)) old limits refl of_log;
       geometry_is = refl;
       checkpoint_is = refl;
-      alone = cut_keeps_first plain number end (sizes_with log plain.geometry) (cache_with (empty_from log end)) has.alone;
       none = refl;
       frontier = frontier;
       history = history;
       pins = refl;
+      none_out = refl;
+      gone = has.gone;
       cache = refl;
     }
 

@@ -1,5 +1,5 @@
 -- The volume that a mount makes is one that the same store has.
-use Rattle.std.proofs.Common.{◌≡◌, ℕ, ◌+◌, ◌-◌, ◌≤◌, true, max, List, [], ◌∷◌, length, take, drop, map, sym, ◌∙◌, ap, subst}
+use Rattle.std.proofs.Common.{◌≡◌, ℕ, ◌+◌, ◌-◌, ◌≤◌, true, max, List, [], ◌∷◌, length, take, drop, map, refl, sym, ◌∙◌, ap, subst}
 use Rattle.std.proofs.Common.{arith, length-drop}
 use Rattle.std.specs.Prelude.{Option}
 use Rattle.std.specs.List.{All}
@@ -25,7 +25,6 @@ use Rattle.cache_log.proofs.ForCallers.{from_is_between}
 use Rattle.plain_disk.specs.declared.log.PlainCommit.{PlainCommit}
 use Rattle.plain_disk.specs.State.{PlainState}
 use Rattle.plain_disk.specs.Valid.{IsPlainVolume}
-use Rattle.plain_disk.proofs.FirstLemmas.{cut_keeps_first}
 use Rattle.refine_log.proofs.Following.{Reaches, reach_used}
 use Rattle.stopped_volume.specs.Device.{CacheOwner}
 use Rattle.refine_log.specs.Stops.{entries_past, HasCommit}
@@ -120,8 +119,11 @@ mounted_has_objects uuid plain found number objects valid has =
     record {
       uuid_at = has.uuid_at;
       opened = has.opened;
-      alone = cut_keeps_first plain number (max (end_of_object number plain) found.head.seq) plain.geometry
-          (mounted_with found number plain).cache has.alone;
+      window = refl;
+      pins = refl;
+      none_out = refl;
+      gone = has.gone;
+      present = has.present;
       stored = record {
         own = has.stored.own;
         valid = valid.stream;

@@ -1,15 +1,23 @@
 -- Contract: what a mount finds in the store of a plain volume.
-use Rattle.std.specs.Prelude.{◌≡◌, ℕ, Option, List}
+use Rattle.std.specs.Prelude.{◌≡◌, ℕ, ◌≤◌, not, Option, None, List, []}
 use Rattle.lsvd_objstore.specs.Objects.{Objects}
+use Rattle.stopped_volume.specs.Objects.{landed_in}
 use Rattle.plain_disk.specs.State.{PlainState, stream_in}
-use Rattle.plain_disk.specs.First.{HasFirstCheckpointAlone}
+use Rattle.plain_disk.specs.Removals.{has}
 use Rattle.object_recovery.specs.Checkpoints.{expected_of}
 use Rattle.object_recovery.specs.Recovery.{HasDataUpTo}
 
--- A store has the objects of a plain volume that opens at its newest checkpoint, and makes none, from that on up to one of a
--- number: that before the first missing one.
+-- A store has the objects of a plain volume as a mount finds them: the volume opens at its newest checkpoint, all its objects, up
+-- to one of this number, are acknowledged, no removal is out, nothing is pinned, and those that were given out for removal are
+-- removed. The store has each object from 1 on but these, and the stream from the checkpoint on up to that number, which is the
+-- one before the first missing number.
 pub record HasObjects (uuid : List ℕ) (plain : PlainState) (number : ℕ) (objects : Objects) : Type 0 where
   pub uuid_at : ℕ → Option (List ℕ)
   pub opened : plain.checkpoint.number ≡ plain.number
-  pub alone : HasFirstCheckpointAlone plain
+  pub window : plain.window ≡ record { last = number; objects = [] }
+  pub pins : plain.pins ≡ []
+  pub none_out : plain.removal ≡ None
+  pub gone : plain.given_out ≡ plain.removed
+  pub present : (other : ℕ) → 1 ≤ other → other ≤ number
+      → landed_in objects (expected_of uuid plain.geometry) other ≡ not (has plain.removed other)
   pub stored : HasDataUpTo (expected_of uuid plain.geometry) uuid_at objects (stream_in plain) plain.opening number

@@ -1,5 +1,5 @@
 -- Contract: what a mount finds and does makes of a plain volume what a mount of it is to make.
-use Rattle.std.specs.Prelude.{◌≡◌, ℕ, ◌+◌, ◌<◌, ◌≤◌, Bool, true, None, IsTrue, IfSome, List, ◌∷◌, length, map, max}
+use Rattle.std.specs.Prelude.{◌≡◌, ℕ, ◌+◌, ◌<◌, ◌≤◌, true, None, IsTrue, IfSome, List, ◌∷◌, length, map, max}
 use Rattle.std.specs.List.{All}
 use Rattle.lsvd_base.specs.declared.entry.Entry.{Entry}
 use Rattle.lsvd_base.specs.declared.geometry.Geometry.{Geometry}
@@ -23,20 +23,24 @@ use Rattle.obj_log.specs.State.{ObjLogState}
 use Rattle.stopped_volume.specs.Device.{CacheOwner, owner_of}
 use Rattle.plain_disk.specs.declared.log.PlainCommit.{PlainCommit}
 use Rattle.plain_disk.specs.Log.{PlainLog}
-use Rattle.plain_disk.specs.State.{PlainState, stream_in, history_length, frontier_end}
-use Rattle.plain_disk.specs.First.{HasFirstCheckpointAlone}
+use Rattle.plain_disk.specs.State.{PlainState, stream_in, history_length, frontier_end, folded_to}
 use Rattle.plain_disk.specs.Cache.{is_kept, kept_commit}
-use Rattle.plain_disk.specs.Stops.{recovered_number, mounted_kept, mounted_lost}
-use Rattle.plain_disk.specs.Valid.{IsPlainVolume}
+use Rattle.plain_disk.specs.Checkpoints.{landed_checkpoint}
+use Rattle.plain_disk.specs.Stops.{recovered_number, recovered_end, mounted_from, mounted_on}
+use Rattle.plain_disk.specs.Found.{found_in}
+use Rattle.plain_disk.specs.Valid.{IsPlainVolume, MayLand}
 use Rattle.object_stream.specs.Landed.{Numbers}
 use Rattle.refine_log.specs.Shows.{ShowsLog}
 use Rattle.refine_log.specs.Logged.{HasLoggedEntries}
 use Rattle.refine_objects.specs.Shows.{ShowsObjects}
+use Rattle.refine_objects.specs.Table.{ShowsTable}
 use Rattle.refine_log.specs.Stops.{HasCommitted, entries_past, HasCommit}
 use Rattle.refine_log.specs.StopLaws.{ShowsStops}
 use Rattle.refine_log.specs.Pending.{ShowsPending}
+use Rattle.object_recovery.specs.Checkpoints.{expected_of}
 use Rattle.object_recovery.specs.Recovery.{IsListUpTo, HasRecovered}
 use Rattle.object_recovery.specs.Places.{HasPlacesInside}
+use Rattle.object_recovery.specs.Table.{HasTableFrom, KnowsObjects}
 use Rattle.refine_mount.specs.Found.{HasObjects}
 use Rattle.refine_mount.specs.Mounted.{end_of_object, mounted_with, sizes_with, mounted_without, log_found, committed_at}
 use Rattle.refine_mount.specs.Mounted.{going_on, data_in, AddsEntries}
@@ -45,14 +49,24 @@ use Rattle.refine_mount.specs.Rest.{IsAtRest}
 
 -- ---- what a mount is to make
 
--- What a mount makes of a plain volume that makes no checkpoint and removes no object depends on what has landed by the number
--- alone that is recovered. One without the cache on a device of the same length is the case of a log as long as the volume's was.
-abbrev pub MountsByNumber : Type 0
-MountsByNumber =
-    (plain : PlainState) (landed : Numbers) (kept : List Bool) → HasFirstCheckpointAlone plain
-    → (mounted_kept landed kept plain ≡ mounted_with (kept_commit kept plain.cache) (recovered_number landed plain) plain)
-    × (plain.cache.log.size ≡ plain.geometry.log
-    → mounted_lost landed plain ≡ mounted_without plain.geometry.log (recovered_number landed plain) plain)
+-- What a mount is to make of a plain volume is what it makes of the one that it finds, opened at the newest checkpoint that has
+-- landed.
+abbrev pub MountsAsFound : Type 0
+MountsAsFound =
+    (plain : PlainState) (landed : Numbers) (found : PlainCommit) (log : ℕ)
+    → IsPlainVolume plain → MayLand plain landed → plain.number ≤ plain.checkpoint.number
+    → (folded_to (landed_checkpoint landed plain).number (mounted_from landed found plain)
+    ≡ mounted_with found (recovered_number landed plain) (found_in landed plain))
+    × (folded_to (landed_checkpoint landed plain).number (mounted_on log landed plain)
+    ≡ mounted_without log (recovered_number landed plain) (found_in landed plain))
+
+-- Bytes that read as a commit of a plain volume, from the end of the objects that a mount finds on, read as that commit of the
+-- one that it finds.
+abbrev pub FoundHasCommit : Type 0
+FoundHasCommit =
+    (owner : CacheOwner) (plain : PlainState) (landed : Numbers) (found : PlainCommit) (count : ℕ) (left : List ℕ)
+    → IsPlainVolume plain → MayLand plain landed → plain.number ≤ plain.checkpoint.number → recovered_end landed plain ≤ count
+    → HasCommit owner plain found count left → HasCommit owner (found_in landed plain) found count left
 
 -- ---- the objects
 
@@ -73,13 +87,25 @@ RecoveredShowsObjects =
     → HasRecovered plain.opening (stream_in plain) number log
     → ShowsObjects data_at log (mounted_without size number plain)
 
--- each list that was recovered shows some plain volume that is at rest, also where no bytes are told
+-- and so does its table
+abbrev pub RecoveredShowsTable : Type 0
+RecoveredShowsTable =
+    (uuid : List ℕ) (size : ℕ) (plain : PlainState) (number : ℕ) (objects : Objects) (log : ObjLogState)
+    → IsPlainVolume plain → HasObjects uuid plain number objects
+    → IsListUpTo uuid (sizes_with size plain.geometry) log.uploads.window.last log.uploads.queue.end log
+    → log.uploads.window.last ≡ number → HasTableFrom plain.checkpoint.number log.uploads.queue
+    → KnowsObjects (expected_of uuid plain.geometry) objects plain.checkpoint.number log.uploads.queue
+    → ShowsTable log.uploads.queue (mounted_without size number plain)
+
+-- each list that was recovered shows some plain volume that is at rest, with its table, also where no bytes are told
 abbrev pub ListShowsSome : Type 0
 ListShowsSome =
     (uuid : List ℕ) (geometry : Geometry) (checkpoint number end : ℕ) (log : ObjLogState)
     → IsTrue (is_within_limits geometry) → 0 < checkpoint → checkpoint ≤ number
     → IsListUpTo uuid geometry number end log → IsUploads log.uploads → HasPlacesInside geometry.sectors log.uploads.queue
+    → HasTableFrom checkpoint log.uploads.queue
     → (plain : PlainState) × IsAtRest geometry checkpoint end plain × ((data_at : ℕ → ℕ) → ShowsObjects data_at log plain)
+    × ShowsTable log.uploads.queue plain
 
 -- where a list shows a volume at rest, it shows that with some entries more once they were added, whatever its log is
 abbrev pub EntriesGoOn : Type 0
@@ -88,6 +114,13 @@ EntriesGoOn =
     (old new : ObjLogState)
     → IsAtRest geometry checkpoint end plain → ShowsObjects data_at old plain → AddsEntries data_at entries old new
     → ShowsObjects data_at new (going_on entries log plain)
+
+-- and so does its table
+abbrev pub EntriesKeepTable : Type 0
+EntriesKeepTable =
+    (data_at : ℕ → ℕ) (plain : PlainState) (entries : List Entry) (log : PlainLog) (old new : ObjLogState)
+    → ShowsTable old.uploads.queue plain → AddsEntries data_at entries old new
+    → ShowsTable new.uploads.queue (going_on entries log plain)
 
 -- ---- the log
 

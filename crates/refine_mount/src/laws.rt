@@ -1,19 +1,22 @@
-ghost use Rattle.refine_mount.specs.Laws.{MountsByNumber, MountedIsAtRest, RecoveredShowsObjects};
-ghost use Rattle.refine_mount.specs.Laws.{ListShowsSome, EntriesGoOn};
+ghost use Rattle.refine_mount.specs.Laws.{MountsAsFound, FoundHasCommit, MountedIsAtRest};
+ghost use Rattle.refine_mount.specs.Laws.{RecoveredShowsObjects, RecoveredShowsTable, ListShowsSome};
+ghost use Rattle.refine_mount.specs.Laws.{EntriesGoOn, EntriesKeepTable};
 ghost use Rattle.refine_mount.specs.Laws.{OpenedShowsLog, CommittedShowsLog, ReopenedShowsLog};
 ghost use Rattle.refine_mount.specs.Laws.{OpenedHasCommitted, AddedAreLogged};
 ghost use Rattle.refine_mount.specs.Laws.{MountedIsPlainVolume, MountedIsGoingOn};
 ghost use Rattle.refine_mount.specs.Laws.{MountsKeptAgain, MountsLostAgain, LosesAgain};
 ghost use Rattle.refine_mount.specs.Laws.{MountedIsStored, CommittingKeepsMount, FatesKeepCommit};
 
-/// A law: a list that was recovered shows a plain volume at rest: that which a mount without the cache makes
-/// of a plain volume whose objects the store has, on a device whose log may be of another length, and in each
-/// case some. With entries more it shows that with these entries.
+/// A law: a list that was recovered shows a plain volume at rest, with its table: that which a mount without
+/// the cache makes of a plain volume whose objects the store has, on a device whose log may be of another
+/// length, and in each case some. With entries more it shows that with these entries.
 pub fn a_list_shows_a_volume_at_rest()
     ensures rest { MountedIsAtRest }
     ensures recovered { RecoveredShowsObjects }
+    ensures table { RecoveredShowsTable }
     ensures some { ListShowsSome }
     ensures entries { EntriesGoOn }
+    ensures entries_table { EntriesKeepTable }
 {}
 
 /// A law: a log that was opened shows the log that is found on the device, and once it was committed again,
@@ -27,9 +30,11 @@ pub fn a_log_shows_what_is_found()
 {}
 
 /// A law: a volume at rest goes on with the entries that are found as a plain volume, which is what a mount
-/// with the cache is to make.
+/// with the cache is to make. What it is to make of a plain volume is what it makes of the one that it finds,
+/// opened at the newest checkpoint.
 pub fn a_mount_goes_on_with_the_entries_found()
-    ensures by_number { MountsByNumber }
+    ensures as_found { MountsAsFound }
+    ensures commit { FoundHasCommit }
     ensures plain { MountedIsPlainVolume }
     ensures going_on { MountedIsGoingOn }
 {}

@@ -115,7 +115,7 @@ module _ (uploads : UploadsState) (plain : PlainState) (is : IsUploads uploads) 
   table = uploads.queue.maps.objects
 
   -- what may be removed by the table may be so by the plain volume
-  removable_is : (number : ℕ) → IsRemovable table number → is_removable plain number ≡ true
+  pub removable_is : (number : ℕ) → IsRemovable table number → is_removable plain number ≡ true
   removable_is number removable =
       let low = found_above 0 number table.rows removable.row is.known.order removable.stands in
       let high : number ≤ uploads.queue.frontier = omega (arith, removable.below, is.known.checkpoint) in
@@ -133,7 +133,7 @@ module _ (uploads : UploadsState) (plain : PlainState) (is : IsUploads uploads) 
       rw (passes, free, left) refl
 
   -- and the other way
-  removable_by : (number : ℕ) → 1 ≤ number → is_removable plain number ≡ true → IsRemovable table number
+  pub removable_by : (number : ℕ) → 1 ≤ number → is_removable plain number ≡ true → IsRemovable table number
   removable_by number low removable =
       let parts = test_parts plain number removable in
       let passes : passes_unmapped plain.checkpoint number ≡ true = parts.0 in

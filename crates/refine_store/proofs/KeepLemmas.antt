@@ -1,18 +1,29 @@
 -- An object of a plain volume stays one while events go on, and over a mount that recovers it.
 use Rattle.std.proofs.Common.{◌≡◌, ℕ, ◌+◌, ◌-◌, ◌<◌, ◌≤◌, Bool, true, false, cond, not, ◌&&◌, List, [], ◌∷◌, ◌++◌, length, take}
-use Rattle.std.proofs.Common.{Option, Some, None, drop, max}
+use Rattle.std.proofs.Common.{Option, Some, None, inl, inr, drop, get_or}
 use Rattle.std.proofs.Common.{refl, sym, ◌∙◌, ap, subst, arith, append-nil}
+use Rattle.std.specs.Prelude.{IfSome}
 use Rattle.std.specs.List.{slice_get}
-use Rattle.std.proofs.lemmas.List.{take-take, take-append-le}
+use Rattle.std.proofs.lemmas.List.{take-take, take-append-le, take-append-drop, length-take-le}
 use Rattle.std.proofs.lemmas.Option.{slice_get_within}
+use Rattle.lsvd_base.specs.declared.entry.Entry.{Entry}
 use Rattle.object_format.specs.declared.expected.Expected.{Expected}
-use Rattle.object_format.specs.declared.rows.Rows.TheVariants as rows_of
-use Rattle.object_stream.specs.declared.object.Content.TheVariants.{Data, Checkpoint}
+use Rattle.ckpt_format.specs.Checkpoint.{IsCheckpoint}
+use Rattle.object_stream.specs.declared.object.Content.{Content}
+use Rattle.object_stream.specs.declared.object.Content.TheVariants.{Data, Copy, Checkpoint}
 use Rattle.object_stream.specs.declared.object.StreamObject.{StreamObject}
-use Rattle.object_stream.specs.Changes.{change_at}
-use Rattle.object_stream.specs.Replay.{HasParts, expected_at}
-use Rattle.object_stream.specs.Stream.{end_after, end_at, last_number, entries_in_object}
+use Rattle.object_stream.specs.declared.owner.Owner.{Owner}
+use Rattle.object_stream.specs.Changes.{place_in_payload}
+use Rattle.object_stream.specs.Replay.{expected_at}
+use Rattle.object_stream.specs.Stream.{Stream, Owners, owners, after_objects, end_after, end_at, last_number, entries_in_object}
+use Rattle.object_stream.proofs.StreamLemmas.{follow_first}
 use Rattle.upload_window.specs.Window.{entered}
+use Rattle.volume_maps.specs.declared.place.ObjectPlace.{ObjectPlace}
+use Rattle.volume_maps.specs.Laws.{place_owner}
+use Rattle.object_uploads.specs.declared.rows.SealedRows.{SealedRows}
+use Rattle.object_uploads.specs.declared.rows.SealedRows.TheVariants as sealed_rows
+use Rattle.object_uploads.specs.Stream.{IsPlacedIn, HoldsContent}
+use Rattle.stopped_volume.specs.Expected.{expected_alone}
 use Rattle.plain_disk.specs.declared.event.PlainEvent.{PlainEvent}
 use Rattle.plain_disk.specs.declared.event.PlainEvent.TheVariants.{Write, Zero, Flush, Look, Release, Seal, TakeJob, JobDone}
 use Rattle.plain_disk.specs.declared.event.PlainEvent.TheVariants.{JobFailed, SealCheckpoint, TakeRemove}
@@ -22,20 +33,49 @@ use Rattle.plain_disk.specs.Cache.{after_reads}
 use Rattle.plain_disk.specs.Objects.{has_unsealed, is_busy, end_of_next}
 use Rattle.plain_disk.specs.Reads.{look_calls, passes_look, objects_read, are_pinned, without_pins}
 use Rattle.plain_disk.specs.Removals.{to_remove, with_removal, is_out}
-use Rattle.plain_disk.specs.State.{PlainState, stream_in}
+use Rattle.plain_disk.specs.State.{PlainState, OpensBlank, stream_in}
 use Rattle.plain_disk.specs.Step.{plain_after}
+use Rattle.plain_disk.specs.Stops.{recovered_number, recovered_end, kept_count, mounted_from, mounted_on}
 use Rattle.plain_disk.specs.Valid.{IsPlainVolume}
 use Rattle.plain_disk.proofs.EndLemmas.{ends_grow, ends_within, ends_from}
 use Rattle.plain_disk.proofs.FlushLemmas.{events_keep_committed}
-use Rattle.refine_mount.specs.Mounted.{end_of_object, mounted_with, mounted_without}
-use Rattle.refine_store.specs.Puts.{IsObjectOf}
+use Rattle.plain_disk.proofs.FoldLemmas.{owners_of_first}
+use Rattle.plain_disk.proofs.OpeningLemmas.{owners_are_past}
+use Rattle.refine_store.specs.Puts.{IsOpeningObject, IsLaterObject, IsObjectOf}
 use Rattle.refine_store.specs.Laws.{EventsKeepObject, MountsKeepObject}
 use Rattle.refine_store.proofs.ObjectLemmas.{get_of_first, same_part}
+
+-- ---- content in another stream
+
+-- a place that is told is where another stream has it too
+placed_too : (stream other : Stream) (owner : Option Owner) (k : ℕ) (place : Option ObjectPlace) → place_owner place ≡ owner
+    → ((p : ObjectPlace) → place_owner (Some p) ≡ owner → IsPlacedIn stream k p → IsPlacedIn other k p)
+    → IfSome place (IsPlacedIn stream k)
+    → IfSome place (IsPlacedIn other k)
+placed_too stream other owner k None is too placed = tt
+placed_too stream other owner k (Some p) is too placed = too p is placed
+
+holds_too : (stream other : Stream) (expected : Expected) (content : Content) (entries : List Entry) (before : Owners) (end : ℕ)
+    (bytes : List ℕ) (rows : SealedRows)
+    → ((k : ℕ) (p : ObjectPlace) → place_owner (Some p) ≡ before k → IsPlacedIn stream k p → IsPlacedIn other k p)
+    → HoldsContent stream expected content entries before end bytes rows
+    → HoldsContent other expected content entries before end bytes rows
+holds_too stream other expected Data entries before end bytes (sealed_rows.Data list) too holds = holds
+holds_too stream other expected Checkpoint entries before end bytes sealed_rows.Checkpoint too holds = record {
+  places = holds.places;
+  holds = holds.holds;
+  owners_are = holds.owners_are;
+  placed = λ k. placed_too stream other (before k) k (holds.places k) (holds.owners_are k) (too k) (holds.placed k);
+}
+holds_too stream other expected Data entries before end bytes sealed_rows.Checkpoint too holds = absurd holds
+holds_too stream other expected Checkpoint entries before end bytes (sealed_rows.Data list) too holds = absurd holds
+holds_too stream other expected (Copy copied) entries before end bytes (sealed_rows.Data list) too holds = absurd holds
+holds_too stream other expected (Copy copied) entries before end bytes sealed_rows.Checkpoint too holds = absurd holds
 
 -- ---- a volume with the same object
 
 module _ (volume : Expected) (plain : PlainState) (number : ℕ) (bytes : List ℕ) (valid : IsPlainVolume plain)
-    (is : IsObjectOf volume plain number bytes) where
+    (blank : OpensBlank plain) (is : IsLaterObject volume plain number bytes) where
   -- how many objects there are up to this one, and how many entries in them
   abbrev count : ℕ
   count = number - plain.number
@@ -44,13 +84,13 @@ module _ (volume : Expected) (plain : PlainState) (number : ℕ) (bytes : List �
   size = end_at (stream_in plain) number - plain.end
 
   pub count_within : count ≤ length plain.objects
-  count_within = let past = is.past in omega (arith, slice_get_within plain.objects (number - (plain.number + 1)) _ is.object)
+  count_within = let past = is.past in omega (arith, slice_get_within plain.objects (number - (plain.number + 1)) _ is.there)
 
   pub size_within : size ≤ length plain.entries
   size_within = omega (arith, ends_within plain number valid (omega (arith, count_within, is.past)))
 
   -- another volume that opens at the same object, and has the same objects and entries up to there, has it
-  module _ (now : PlainState) (opens : now.number ≡ plain.number) (ends : now.end ≡ plain.end)
+  module _ (now : PlainState) (opens : now.number ≡ plain.number) (ends : now.end ≡ plain.end) (owned : now.owned ≡ plain.owned)
       (objects : take count now.objects ≡ take count plain.objects) (entries : take size now.entries ≡ take size plain.entries)
     where
       same_objects : (n : ℕ) → n ≤ count → take n now.objects ≡ take n plain.objects
@@ -63,52 +103,107 @@ module _ (volume : Expected) (plain : PlainState) (number : ℕ) (bytes : List �
           ∙ ap (λ end. end_after end (take (other - plain.number) now.objects)) ends
           ∙ ap (end_after plain.end) (same_objects (other - plain.number) few)
 
-      same_entries : entries_in_object (stream_in now) number ≡ entries_in_object (stream_in plain) number
-      same_entries =
-          let from = end_at (stream_in plain) (number - 1) in
-          let to = end_at (stream_in plain) number in
-          let low = ends_from plain (number - 1) valid in
-          let grown = ends_grow (stream_in plain) (number - 1) number valid.stream.ends (omega arith) in
-          let sum : from - plain.end + (to - from) ≡ size = omega (arith, low, grown) in
-          let first : take (from - plain.end + (to - from)) now.entries ≡ take (from - plain.end + (to - from)) plain.entries =
-          ap (λ n. take n now.entries) sum ∙ entries ∙ ap (λ n. take n plain.entries) (sym sum) in
-          let first_now = end_at (stream_in now) (number - 1) in
-          ap (λ end. take (end - first_now) (drop (first_now - now.end) now.entries)) (same_end number (omega arith))
-          ∙ ap (λ end. take (to - end) (drop (end - now.end) now.entries)) (same_end (number - 1) (omega arith))
+      same_entries : (other : ℕ) → other ≤ number
+          → entries_in_object (stream_in now) other ≡ entries_in_object (stream_in plain) other
+      same_entries other most =
+          let from = end_at (stream_in plain) (other - 1) in
+          let to = end_at (stream_in plain) other in
+          let part = from - plain.end + (to - from) in
+          let low = ends_from plain (other - 1) valid in
+          let grown = ends_grow (stream_in plain) (other - 1) other valid.stream.ends (omega arith) in
+          let high = ends_grow (stream_in plain) other number valid.stream.ends most in
+          let within : part ≤ size = omega (arith, low, grown, high) in
+          let first : take part now.entries ≡ take part plain.entries =
+          sym (take-take part size now.entries within) ∙ ap (take part) entries ∙ take-take part size plain.entries within in
+          let first_now = end_at (stream_in now) (other - 1) in
+          ap (λ end. take (end - first_now) (drop (first_now - now.end) now.entries)) (same_end other most)
+          ∙ ap (λ end. take (to - end) (drop (end - now.end) now.entries)) (same_end (other - 1) (omega arith))
           ∙ ap (λ end. take (to - from) (drop (from - end) now.entries)) ends
           ∙ same_part (from - plain.end) (to - from) now.entries plain.entries first
 
-      pub object_kept : IsObjectOf volume now number bytes
-      object_kept =
+      same_owners : owners (stream_in now) (number - 1) ≡ owners (stream_in plain) (number - 1)
+      same_owners =
+          let n = number - 1 - plain.number in
+          let list = take n plain.objects in
+          let opening = (stream_in plain).opening in
+          let first = take size plain.entries in
+          let low = ends_from plain (number - 1) valid in
+          let grown = ends_grow (stream_in plain) (number - 1) number valid.stream.ends (omega arith) in
+          let long = length-take-le size plain.entries size_within in
+          let inside : end_after plain.end list ≤ plain.end + length first = omega (arith, long, low, grown) in
+          let follow = follow_first plain.end n plain.objects valid.stream.ends in
+          let After : List Entry → Owners = λ es. after_objects plain.number plain.end es opening list in
+          ap (λ m. after_objects m now.end now.entries (stream_in now).opening (take (number - 1 - m) now.objects)) opens
+          ∙ ap (λ end. after_objects plain.number end now.entries (stream_in now).opening (take n now.objects)) ends
+          ∙ ap (λ (os : List (Option Owner)). after_objects plain.number plain.end now.entries (λ k. get_or os k None)
+          (take n now.objects)) owned
+          ∙ ap (after_objects plain.number plain.end now.entries opening) (same_objects n (omega arith))
+          ∙ ap After (sym (take-append-drop size now.entries))
+          ∙ ap (λ es. After (es ++ drop size now.entries)) entries
+          ∙ owners_of_first plain.number plain.end first (drop size now.entries) opening list follow inside
+          ∙ sym (owners_of_first plain.number plain.end first (drop size plain.entries) opening list follow inside)
+          ∙ ap After (take-append-drop size plain.entries)
+
+      -- each place of a checkpoint is in an earlier object
+      same_place : (k : ℕ) (place : ObjectPlace) → place_owner (Some place) ≡ owners (stream_in plain) (number - 1) k
+          → IsPlacedIn (stream_in plain) k place → IsPlacedIn (stream_in now) k place
+      same_place k place owns placed level past =
+          let owner : Owner = record { level = place.level; number = place.number } in
+          let before = owners_are_past plain (number - 1) k owner blank (sym owns) in
+          placed level (omega (arith, past, opens))
+          ∙ ap (λ list. place_in_payload list k) (sym (same_entries place.number (omega (arith, before.2))))
+
+      pub later_kept : IsLaterObject volume now number bytes
+      later_kept =
           let i = number - (plain.number + 1) in
           let past = is.past in
           let inside : i < count = omega arith in
+          let object = is.object in
+          let last = end_at (stream_in plain) (number - 1) in
+          let own = entries_in_object (stream_in plain) number in
+          let Holds : ℕ → List Entry → Owners → Type 0 =
+          λ end list os. HoldsContent (stream_in now) (expected_at volume number end) object.content list os object.end bytes
+          is.rows in
           record {
             past = omega (arith, opens, past);
-            header = is.header;
-            object =
+            object = object;
+            there =
                 ap (λ n. slice_get now.objects (number - (n + 1))) opens
                 ∙ sym (get_of_first count i now.objects inside)
                 ∙ ap (λ list. slice_get list i) objects
                 ∙ get_of_first count i plain.objects inside
-                ∙ is.object;
+                ∙ is.there;
             rows = is.rows;
-            payload = is.payload;
-            parts =
-                subst (λ end. HasParts (expected_at volume number end) bytes is.header (rows_of.Data is.rows) is.payload)
-                (sym (same_end (number - 1) (omega arith))) is.parts;
-            changes = λ k. is.changes k ∙ ap (λ list. change_at list k) (sym same_entries);
+            holds =
+                subst (λ os. Holds (end_at (stream_in now) (number - 1)) (entries_in_object (stream_in now) number) os)
+                (sym same_owners)
+                (subst (λ list. Holds (end_at (stream_in now) (number - 1)) list (owners (stream_in plain) (number - 1)))
+                (sym (same_entries number (omega arith)))
+                (subst (λ end. Holds end own (owners (stream_in plain) (number - 1))) (sym (same_end (number - 1) (omega arith)))
+                (holds_too (stream_in plain) (stream_in now) (expected_at volume number last) object.content own
+                (owners (stream_in plain) (number - 1)) object.end bytes is.rows same_place is.holds)));
           }
+
+opening_kept : (volume : Expected) (plain now : PlainState) (number : ℕ) (bytes : List ℕ) → now.number ≡ plain.number
+    → now.end ≡ plain.end → now.owned ≡ plain.owned
+    → IsOpeningObject volume plain number bytes → IsOpeningObject volume now number bytes
+opening_kept volume plain now number bytes opens ends owned is = record {
+  first = is.first ∙ sym opens;
+  rows = is.rows;
+  is_checkpoint = subst (λ end. IsCheckpoint bytes (expected_alone volume number) end is.rows) (sym ends) is.is_checkpoint;
+  says = λ k. ap (λ (list : List (Option Owner)). get_or list k None) owned ∙ is.says k;
+}
 
 -- ---- events
 
 -- a volume opens where another one does, and has its objects, and maybe more
 abbrev KeepsObjects : (old new : PlainState) → Type 0
 KeepsObjects old new =
-    (new.number ≡ old.number) × (new.end ≡ old.end) × ((more : List StreamObject) × (new.objects ≡ old.objects ++ more))
+    (new.number ≡ old.number) × (new.end ≡ old.end) × (new.owned ≡ old.owned)
+    × ((more : List StreamObject) × (new.objects ≡ old.objects ++ more))
 
 has_same : (plain : PlainState) → KeepsObjects plain plain
-has_same plain = (refl, refl, ([], sym (append-nil plain.objects)))
+has_same plain = (refl, refl, refl, ([], sym (append-nil plain.objects)))
 
 either_keeps : (plain : PlainState) (b : Bool) (x y : PlainState) → KeepsObjects plain x → KeepsObjects plain y
     → KeepsObjects plain (cond b x y)
@@ -139,7 +234,7 @@ keeps_objects plain Seal =
     let object : StreamObject = record { content = Data; end = end_of_next plain } in
     either_keeps plain (has_unsealed plain && not (is_busy plain))
     (record plain { objects = plain.objects ++ object ∷ []; window = entered (plain.window.last + 1) false plain.window })
-    plain (refl, refl, (object ∷ [], refl)) (has_same plain)
+    plain (refl, refl, refl, (object ∷ [], refl)) (has_same plain)
 keeps_objects plain TakeJob = has_same plain
 keeps_objects plain (JobDone job) = has_same plain
 keeps_objects plain (JobFailed job) = has_same plain
@@ -150,7 +245,7 @@ keeps_objects plain SealCheckpoint =
     } in
     either_keeps plain (is_busy plain) plain
     (record plain { objects = plain.objects ++ object ∷ []; window = entered (plain.window.last + 1) true plain.window })
-    (has_same plain) (refl, refl, (object ∷ [], refl))
+    (has_same plain) (refl, refl, refl, (object ∷ [], refl))
 keeps_objects plain TakeRemove = removal_keeps plain plain.removal (to_remove plain)
 keeps_objects plain (RemoveDone number) =
     let gone : PlainState = record plain { removed = plain.removed ++ number ∷ []; removal = None } in
@@ -160,37 +255,44 @@ keeps_objects plain (RemoveFailed number) =
 keeps_objects plain Status = has_same plain
 
 pub events_keep_object : EventsKeepObject
-events_keep_object volume plain number bytes event valid is =
+events_keep_object volume plain number bytes event valid blank (inl is) =
+    let keeps = keeps_objects plain event in
+    inl (opening_kept volume plain (plain_after event plain) number bytes keeps.0 keeps.1 keeps.2 is)
+events_keep_object volume plain number bytes event valid blank (inr is) =
     let now = plain_after event plain in
     let keeps = keeps_objects plain event in
     let grows = (events_keep_committed plain event valid).1 in
     let first = number - plain.number in
     let held = end_at (stream_in plain) number - plain.end in
-    object_kept volume plain number bytes valid is now keeps.0 keeps.1
-    (ap (take first) keeps.2.1 ∙ take-append-le first plain.objects keeps.2.0 (count_within volume plain number bytes valid is))
-    (ap (take held) grows.1 ∙ take-append-le held plain.entries grows.0 (size_within volume plain number bytes valid is))
+    inr (later_kept volume plain number bytes valid blank is now keeps.0 keeps.1 keeps.2
+    (ap (take first) keeps.3.1
+    ∙ take-append-le first plain.objects keeps.3.0 (count_within volume plain number bytes valid blank is))
+    (ap (take held) grows.1
+    ∙ take-append-le held plain.entries grows.0 (size_within volume plain number bytes valid blank is)))
 
 -- ---- mounts
 
 -- a volume that keeps its objects up to a number, and the entries in them at least, keeps the objects up to there
 cut_keeps : (volume : Expected) (plain now : PlainState) (last number to : ℕ) (bytes : List ℕ) → IsPlainVolume plain
-    → number ≤ last
-    → end_of_object last plain ≤ to → now.number ≡ plain.number → now.end ≡ plain.end
+    → OpensBlank plain → number ≤ last → end_at (stream_in plain) last ≤ to
+    → now.number ≡ plain.number → now.end ≡ plain.end → now.owned ≡ plain.owned
     → now.objects ≡ take (last - plain.number) plain.objects → now.entries ≡ take (to - plain.end) plain.entries
     → IsObjectOf volume plain number bytes → IsObjectOf volume now number bytes
-cut_keeps volume plain now last number to bytes valid low high opens ends objects entries is =
+cut_keeps volume plain now last number to bytes valid blank low high opens ends owned objects entries (inl is) =
+    inl (opening_kept volume plain now number bytes opens ends owned is)
+cut_keeps volume plain now last number to bytes valid blank low high opens ends owned objects entries (inr is) =
     let first = number - plain.number in
     let held = end_at (stream_in plain) number - plain.end in
     let grown = ends_grow (stream_in plain) number last valid.stream.ends low in
-    object_kept volume plain number bytes valid is now opens ends
+    inr (later_kept volume plain number bytes valid blank is now opens ends owned
     (ap (take first) objects ∙ take-take first (last - plain.number) plain.objects (omega arith))
-    (ap (take held) entries ∙ take-take held (to - plain.end) plain.entries (omega (arith, grown)))
+    (ap (take held) entries ∙ take-take held (to - plain.end) plain.entries (omega (arith, grown))))
 
 pub mounts_keep_object : MountsKeepObject
-mounts_keep_object volume plain found log last number bytes valid low is =
-    let end = end_of_object last plain in
-    let with_cache = mounted_with found last plain in
-    let without = mounted_without log last plain in (
-      cut_keeps volume plain with_cache last number (max end found.head.seq) bytes valid low (omega arith) refl refl refl refl is,
-      cut_keeps volume plain without last number end bytes valid low (omega arith) refl refl refl refl is,
+mounts_keep_object volume plain landed found log number bytes valid blank may low is =
+    let last = recovered_number landed plain in (
+      cut_keeps volume plain (mounted_from landed found plain) last number (kept_count landed found plain) bytes valid blank low
+          (omega arith) refl refl refl refl refl is,
+      cut_keeps volume plain (mounted_on log landed plain) last number (recovered_end landed plain) bytes valid blank low
+          (omega arith) refl refl refl refl refl is,
     )

@@ -1,7 +1,13 @@
 pub mod ObjectLemmas
 pub mod StoredLemmas
+pub mod DataLemmas
+pub mod PlaceLemmas
 pub mod KeepLemmas
 pub mod JobLemmas
-pub mod LowerLemmas
+pub mod ValueLemmas
+pub mod NewestLemmas
+pub mod BaseLemmas
+pub mod OwnerLemmas
+pub mod VolumeLemmas
 pub mod LeftLemmas
 pub mod StandLemmas

@@ -3,7 +3,6 @@ use Rattle.std.proofs.Common.{◌≡◌, ℕ, zero, suc, ◌+◌, ◌-◌, ◌<�
 use Rattle.std.specs.List.{slice_get}
 use Rattle.std.proofs.lemmas.List.{drop-take, drop-drop}
 use Rattle.lsvd_base.specs.declared.entry.Entry.{Entry}
-use Rattle.object_stream.specs.declared.object.Content.TheVariants.{Data}
 use Rattle.object_stream.specs.declared.object.StreamObject.{StreamObject}
 use Rattle.object_stream.specs.Stream.{end_after, EndsFollow}
 use Rattle.object_stream.proofs.StreamLemmas.{goes_on, end_no_earlier, follow_first}
@@ -42,13 +41,6 @@ pub end_up_to : (end i : ℕ) (objects : List StreamObject) (object : StreamObje
 end_up_to end i [] object at = absurd (cc)
 end_up_to end zero (first ∷ more) object at = let same : first ≡ object = cc in ap (λ (o : StreamObject). o.end) same
 end_up_to end (suc i) (first ∷ more) object at = end_up_to first.end i more object at
-
--- an object is known by its content and its end
-pub data_object : (object : StreamObject) (end : ℕ) → object.content ≡ Data → end ≡ object.end
-    → object ≡ record { content = Data; end = end }
-data_object object end is_data ends =
-    ap (λ c. let o : StreamObject = record { content = c; end = object.end } in o) is_data
-    ∙ ap (λ e. let o : StreamObject = record { content = Data; end = e } in o) (sym ends)
 
 -- the first of objects after one more end no earlier than that, nor than the one before it
 pub ends_past : (end : ℕ) (first : StreamObject) (i : ℕ) (more : List StreamObject) → EndsFollow end (first ∷ more)

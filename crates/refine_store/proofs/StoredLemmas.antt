@@ -2,23 +2,15 @@
 use Rattle.std.proofs.Common.{◌≡◌, ℕ, zero, suc, ◌+◌, ◌-◌, ◌<◌, Option, Some, List, [], ◌∷◌, length, take, drop, refl, sym, ◌∙◌}
 use Rattle.std.proofs.Common.{ap, subst, arith}
 use Rattle.std.specs.List.{slice_get}
-use Rattle.std.specs.Global.{Vec}
 use Rattle.lsvd_base.specs.declared.entry.Entry.{Entry}
-use Rattle.lsvd_objstore.specs.Objects.{Objects, found}
-use Rattle.object_format.specs.declared.data_row.DataRow.{DataRow}
+use Rattle.lsvd_objstore.specs.Objects.{Objects}
 use Rattle.object_format.specs.declared.expected.Expected.{Expected}
-use Rattle.object_format.specs.declared.rows.Rows.{Rows}
-use Rattle.object_format.specs.declared.rows.Rows.TheVariants as rows_of
-use Rattle.object_stream.specs.declared.object.Content.{Content}
-use Rattle.object_stream.specs.declared.object.Content.TheVariants.{Data}
 use Rattle.object_stream.specs.declared.object.StreamObject.{StreamObject}
-use Rattle.object_stream.specs.Changes.{change_at, change_in}
-use Rattle.object_stream.specs.Replay.{object_name, HasParts, expected_at}
-use Rattle.object_stream.specs.Stored.{HasContent, IsObjectStored, AreStored}
+use Rattle.object_stream.specs.Replay.{expected_at}
+use Rattle.object_stream.specs.Stored.{IsObjectStored, AreStored}
 use Rattle.object_stream.specs.Stream.{Stream, end_after, end_at, EndsFollow, entries_in_object}
 use Rattle.plain_disk.specs.State.{PlainState, stream_in}
-use Rattle.refine_store.specs.Puts.{IsObjectOf}
-use Rattle.refine_store.proofs.ObjectLemmas.{end_up_to, data_object, entries_at, entries_past_first, entries_of_first}
+use Rattle.refine_store.proofs.ObjectLemmas.{end_up_to, entries_at, entries_past_first, entries_of_first}
 
 -- ---- objects that are stored
 
@@ -62,58 +54,12 @@ module _ (objects : Objects) (uuid_at : ℕ → Option (List ℕ)) (volume : Exp
         (λ i other low at. stored_past_first number end entries object other i more follow (each (suc i) other (omega arith) at)),
   )
 
-  stored_of_rest : (number end : ℕ) (entries : List Entry) (first object : StreamObject) (i : ℕ) (more : List StreamObject)
-      → EndsFollow end (first ∷ more) → IsStoredAt (number + 1) first.end (drop (first.end - end) entries) more i object
-      → IsStoredAt number end entries (first ∷ more) (suc i) object
-  stored_of_rest number end entries first object i more follow is =
-      let before = end_after first.end (take i more) in
-      let sum : number + 1 + 1 + i ≡ number + 1 + suc i = omega arith in
-      let part = entries_at end entries (first ∷ more) (suc i) object in
-      subst (λ n. IsObjectStored objects uuid_at (expected_at volume n before) object part) sum
-      (subst (λ list. IsObjectStored objects uuid_at (expected_at volume (number + 1 + 1 + i) before) object list)
-      (entries_past_first end entries first object i more follow) is)
-
-  stored_as_first : (number end : ℕ) (entries : List Entry) (object : StreamObject) (more : List StreamObject)
-      → IsObjectStored objects uuid_at (expected_at volume (number + 1) end) object (take (object.end - end) entries)
-      → IsStoredAt number end entries (object ∷ more) 0 object
-  stored_as_first number end entries object more is =
-      let sum : number + 1 ≡ number + 1 + 0 = omega arith in
-      let part = entries_at end entries (object ∷ more) 0 object in
-      subst (λ n. IsObjectStored objects uuid_at (expected_at volume n end) object part) sum
-      (subst (λ list. IsObjectStored objects uuid_at (expected_at volume (number + 1) end) object list)
-      (entries_of_first end entries object more) is)
-
-  pub stored_at : (count number end : ℕ) (entries : List Entry) (list : List StreamObject) (i : ℕ) (object : StreamObject)
-      → EndsFollow end list → i < count → slice_get list i ≡ Some object
-      → AreStored objects uuid_at volume number end entries (take count list) → IsStoredAt number end entries list i object
-  stored_at zero number end entries list i object follow low at are = absurd (omega (arith, low))
-  stored_at (suc count) number end entries [] i object follow low at are = absurd (cc)
-  stored_at (suc count) number end entries (first ∷ more) zero object follow low at are =
-      let same : first ≡ object = cc in
-      subst (IsStoredAt number end entries (first ∷ more) 0) same (stored_as_first number end entries first more are.0)
-  stored_at (suc count) number end entries (first ∷ more) (suc i) object follow low at are =
-      stored_of_rest number end entries first object i more follow
-      (stored_at count (number + 1) first.end (drop (first.end - end) entries) more i object follow.1 (omega (arith, low)) at
-      are.1)
-
 -- ---- in a plain volume
 
 pub get_within : {X : Type 0} (i : ℕ) (xs : List X) → i < length xs → (x : X) × (slice_get xs i ≡ Some x)
 get_within i [] low = absurd (omega (arith, low))
 get_within zero (x ∷ xs) low = (x, refl)
 get_within (suc i) (x ∷ xs) low = get_within i xs (omega (arith, low))
-
--- rows of entries alone are those of a data object
-data_content : (objects : Objects) (uuid_at : ℕ → Option (List ℕ)) (content : Content) (entries : List Entry) (rows : Rows)
-    (payload : List ℕ)
-    → content ≡ Data → HasContent objects uuid_at content entries rows payload
-    → (list : Vec DataRow) × (rows ≡ rows_of.Data list) × ((k : ℕ) → change_in list.items payload k ≡ change_at entries k)
-data_content objects uuid_at content entries (rows_of.Data list) payload is has =
-    (list, refl, subst (λ c. HasContent objects uuid_at c entries (rows_of.Data list) payload) is has)
-data_content objects uuid_at content entries (rows_of.Copy list) payload is has =
-    absurd (subst (λ c. HasContent objects uuid_at c entries (rows_of.Copy list) payload) is has)
-data_content objects uuid_at content entries rows_of.Checkpoint payload is has =
-    absurd (subst (λ c. HasContent objects uuid_at c entries rows_of.Checkpoint payload) is has)
 
 -- the object at an index
 module _ (plain : PlainState) (i : ℕ) (object : StreamObject) (at : slice_get plain.objects i ≡ Some object) where
@@ -127,7 +73,7 @@ module _ (plain : PlainState) (i : ℕ) (object : StreamObject) (at : slice_get 
   end_before =
       let index : n - 1 - plain.number ≡ i = omega arith in ap (λ m. end_after plain.end (take m plain.objects)) index
 
-  end_there : end_at stream n ≡ object.end
+  pub end_there : end_at stream n ≡ object.end
   end_there =
       let index : n - plain.number ≡ suc i = omega arith in
       ap (λ m. end_after plain.end (take m plain.objects)) index ∙ end_up_to plain.end i plain.objects object at
@@ -137,29 +83,3 @@ module _ (plain : PlainState) (i : ℕ) (object : StreamObject) (at : slice_get 
       let from = end_after plain.end (take i plain.objects) in
       ap (λ last. take (end_at stream n - last) (drop (last - plain.end) plain.entries)) end_before
       ∙ ap (λ end. take (end - from) (drop (from - plain.end) plain.entries)) end_there
-
-  -- one that is stored, and holds data, is the plain volume's
-  pub stored_is_object : (objects : Objects) (uuid_at : ℕ → Option (List ℕ)) (volume : Expected) → object.content ≡ Data
-      → IsStoredAt objects uuid_at volume plain.number plain.end plain.entries plain.objects i object
-      → (bytes : List ℕ) × (found objects (object_name volume n) ≡ Some bytes) × IsObjectOf volume plain n bytes
-  stored_is_object objects uuid_at volume is_data is =
-      let part = entries_at plain.end plain.entries plain.objects i object in
-      let data_is = data_content objects uuid_at object.content part is.rows_of is.payload is_data is.content in
-      let index : n - (plain.number + 1) ≡ i = omega arith in (
-        is.bytes,
-        is.present,
-        record {
-          past = omega arith;
-          header = is.header;
-          object =
-              ap (slice_get plain.objects) index ∙ at ∙ ap Some (data_object object is.header.end_seq is_data is.ends);
-          rows = data_is.0;
-          payload = is.payload;
-          parts =
-              subst (λ end. HasParts (expected_at volume n end) is.bytes is.header (rows_of.Data data_is.0) is.payload)
-              (sym end_before)
-              (subst (λ rows. HasParts (expected_at volume n (end_after plain.end (take i plain.objects))) is.bytes is.header rows
-              is.payload) data_is.1 is.parts);
-          changes = λ k. data_is.2 k ∙ ap (λ list. change_at list k) (sym entries_there);
-        },
-      )

@@ -1,37 +1,58 @@
--- Contract: how a store stands for a plain volume while puts of its objects are under way, and what it has of one between a stop
+-- Contract: how a store stands for a plain volume while its objects are put and removed, and what it has of one between a stop
 -- and the end of a mount.
-use Rattle.std.specs.Prelude.{◌≡◌, ℕ, ◌<◌, Option, Some, None, List}
+use Rattle.std.specs.Prelude.{◌≡◌, ℕ, ◌+◌, ◌<◌, ◌≤◌, true, false, IsTrue, Option, Some, None, IfSome, List}
 use Rattle.lsvd_names.specs.Names.{numbered_name}
 use Rattle.lsvd_objstore.specs.Objects.{Objects, found}
+use Rattle.object_stream.specs.Landed.{Numbers}
+use Rattle.object_stream.specs.Replay.{object_name}
+use Rattle.object_stream.specs.Stream.{Owners}
 use Rattle.object_recovery.specs.Checkpoints.{expected_of}
 use Rattle.object_uploads.specs.State.{UploadsState}
 use Rattle.object_uploads.specs.Queue.{HasBytesAt}
 use Rattle.object_uploads.specs.Changes.{index_of}
-use Rattle.plain_disk.specs.State.{PlainState}
+use Rattle.plain_disk.specs.State.{PlainState, OpensBlank}
+use Rattle.plain_disk.specs.Removals.{has}
+use Rattle.plain_disk.specs.Stops.{recovered_number}
+use Rattle.plain_disk.specs.Found.{SealsCheckpoints}
+use Rattle.plain_disk.specs.Valid.{MayLand}
+use Rattle.stopped_volume.specs.Objects.{AreWholePast}
+use Rattle.stopped_volume.specs.Opening.{IsCheckpointOf}
 use Rattle.stopped_volume.specs.Store.{PutState}
 use Rattle.stopped_volume.specs.Store.PutState.{Begun}
 use Rattle.stopped_volume.specs.Super.{HasVolume}
-use Rattle.refine_mount.specs.Found.{HasObjects}
-use Rattle.refine_store.specs.Puts.{ArePuts, HasLower, MayBeLeft}
+use Rattle.refine_store.specs.Puts.{IsObjectOf, ArePuts, MayBeLeft}
 
--- A store stands for a plain volume, whose objects on their way are these: it has the volume in this epoch, the checkpoint at
--- which the volume opens, each object before that, and each later one that is acknowledged, which is the plain volume's. One of
--- which the put was begun is absent or has just the bytes that were sealed, which are the plain volume's object too, and no other
--- object is there.
+-- A store stands for a plain volume, whose objects on their way are these: it has the volume in this epoch, and each object that
+-- is acknowledged, which is the plain volume's. One that was given out for removal is absent or whole. One of which the put was
+-- begun is absent or has just the bytes that were sealed, which are the plain volume's object too, and no other object is there.
+-- The object whose removal is out was given out for it.
 pub record StoreStands (uuid : List ℕ) (epoch : ℕ) (plain : PlainState) (uploads : UploadsState) (objects : Objects) :
     Type 0 where
   pub puts : ℕ → Option (PutState × List ℕ)
   pub are : ArePuts (expected_of uuid plain.geometry) plain puts
   pub left : MayBeLeft uuid epoch plain puts objects
-  pub sealed : (number : ℕ) (bytes : List ℕ) → plain.number < number → puts number ≡ Some (Begun, bytes)
+  pub sealed : (number : ℕ) (bytes : List ℕ) → puts number ≡ Some (Begun, bytes)
       → HasBytesAt (index_of uploads number) uploads.queue.sealed bytes
+  pub out : IfSome plain.removal (λ number. has plain.given_out number ≡ true)
 
--- A store has a plain volume up to its object of a number, that before the first missing one: the volume in this epoch, and its
--- objects up to there, those before the one at which it opens too. What it has past them is for a mount to remove.
-pub record HasVolumeUpTo (uuid : List ℕ) (epoch : ℕ) (plain : PlainState) (number : ℕ) (objects : Objects) : Type 0 where
+-- A store has a plain volume up to the object before the first missing number, of these that have landed: the volume in this
+-- epoch, each object up to there that has landed, which is the plain volume's, and no other up to there, and none of the missing
+-- number. What it has past that is whole and no checkpoint, and is for a mount to remove.
+pub record HasVolumeUpTo (uuid : List ℕ) (epoch : ℕ) (plain : PlainState) (landed : Numbers) (objects : Objects) : Type 0 where
   pub described : HasVolume uuid plain.geometry epoch objects
-  pub objects_are : HasObjects uuid plain number objects
-  pub lower : HasLower (expected_of uuid plain.geometry) plain.number objects
+  pub blank : OpensBlank plain
+  pub seals : SealsCheckpoints plain
+  pub may : MayLand plain landed
+  pub there : (number : ℕ) → 0 < number → number ≤ recovered_number landed plain → IsTrue (landed number)
+      → (bytes : List ℕ) × (found objects (object_name (expected_of uuid plain.geometry) number) ≡ Some bytes)
+      × IsObjectOf (expected_of uuid plain.geometry) plain number bytes
+  pub absent : (number : ℕ) → 0 < number → number ≤ recovered_number landed plain → landed number ≡ false
+      → found objects (object_name (expected_of uuid plain.geometry) number) ≡ None
+  pub none_first : found objects (object_name (expected_of uuid plain.geometry) 0) ≡ None
+  pub missing : found objects (object_name (expected_of uuid plain.geometry) (recovered_number landed plain + 1)) ≡ None
+  pub past : AreWholePast (expected_of uuid plain.geometry) objects (recovered_number landed plain)
+  pub no_checkpoint : (number end : ℕ) (owned : Owners) → recovered_number landed plain < number
+      → IsCheckpointOf (expected_of uuid plain.geometry) objects number end owned → ⊥
 
 -- it has none of the volume's objects past a number
 abbrev pub HasNonePast : (uuid : List ℕ) → (number : ℕ) → Objects → Type 0

@@ -1,7 +1,7 @@
 -- For `crash`: disks that fail no call, and what is created and mounted on them.
 use Rattle.std.proofs.Common.{◌≡◌, ℕ, zero, suc, ◌+◌, ◌<◌, ◌≤◌, Bool, true, false, List, [], ◌∷◌, ◌++◌, length, take, min, get_or}
 use Rattle.std.proofs.Common.{refl, sym, ◌∙◌, ap, subst, inl, inr, arith, rules}
-use Rattle.std.specs.Prelude.{Option, Some, None, IsSome, Result, Ok, Err, OnOk, IfOk, not, ◌==◌}
+use Rattle.std.specs.Prelude.{Option, Some, None, IsSome, Result, Ok, Err, OnOk, IfOk, is_err, not, ◌==◌}
 use Rattle.std.specs.declared.alloc.AllocError.{AllocError}
 use Rattle.std.proofs.lemmas.Bool.{cases_lt}
 use Rattle.std.proofs.lemmas.List.Elements.{All-from_recursion}
@@ -19,7 +19,7 @@ use Rattle.lsvd_device.specs.Sequence.{Call, passed_of}
 use Rattle.lsvd_device.specs.Stop.{HasNow}
 use Rattle.lsvd_device.specs.declared.fate.Fate.{Fate}
 use Rattle.lsvd_objstore.specs.Memory.{Kept}
-use Rattle.lsvd_objstore.specs.Objects.{Objects, found, IsPut}
+use Rattle.lsvd_objstore.specs.Objects.{Objects, found, IsPut, IsRemoved}
 use Rattle.lsvd_objstore.specs.Store.{Becomes}
 use Rattle.object_uploads.specs.State.{UploadsState}
 use Rattle.stopped_volume.specs.Opening.{IsCheckpointOf}
@@ -34,7 +34,9 @@ use Rattle.plain_disk.specs.State.{created_volume}
 use Rattle.object_recovery.specs.Recovery.{RemovesAllPast}
 use Rattle.refine_log.specs.Fuses.{fuse_in}
 use Rattle.refine_log.proofs.Asked.{asked, has_now}
+use Rattle.refine_store.specs.Puts.{IsObjectOf}
 use Rattle.refine_store.specs.Stored.{StoreStands}
+use Rattle.stopped_volume.specs.Store.PutState.{Acknowledged}
 use Rattle.vol_core.specs.Volume.{SteppedVolume}
 use Rattle.vol_core.proofs.CreateLemmas.{format_covered}
 use Rattle.vol_recover.specs.declared.creating.CreateError.{CreateError}
@@ -123,28 +125,29 @@ empty_is_new : (objects : Objects) → objects ≡ [] → IsNewTo script_uuid ob
 empty_is_new objects empty = λ name own there. absurd (there (ap (λ (os : Objects). found os name) empty))
 
 -- the first object stands in a store that stands for a new volume, and no other one does
+as_checkpoint : (geometry : Geometry) (bytes : List ℕ) (new : Objects) → found new (numbered_name script_uuid 1) ≡ Some bytes
+    → IsObjectOf (expected_of script_uuid geometry) (created_volume geometry) 1 bytes
+    → IsCheckpointOf (expected_of script_uuid geometry) new 1 0 (λ k. None)
+as_checkpoint geometry bytes new present (inl is) =
+    record { bytes = bytes; present = present; rows = is.rows; is_checkpoint = is.is_checkpoint; says = is.says }
+as_checkpoint geometry bytes new present (inr later) = absurd (omega (arith, later.past))
+
 new_first : (geometry : Geometry) (uploads : UploadsState) (new : Objects)
     → StoreStands script_uuid 0 (created_volume geometry) uploads new
     → IsCheckpointOf (expected_of script_uuid geometry) new 1 0 (λ k. None)
 new_first geometry uploads new stands =
-    let first = stands.left.opens.is.checkpoint in
-    record {
-      bytes = first.bytes;
-      present = first.present;
-      rows = first.rows;
-      is_checkpoint = first.is_checkpoint;
-      says = first.says;
-    }
+    let known = stands.are.known 1 (omega arith) (omega arith) refl in
+    as_checkpoint geometry known.0 new (stands.left.held.puts_are 1 Acknowledged known.0 known.1) known.2
 
 new_alone : (geometry : Geometry) (uploads : UploadsState) (new : Objects) (number : ℕ)
     → StoreStands script_uuid 0 (created_volume geometry) uploads new → (number ≡ 1 → ⊥)
     → found new (numbered_name script_uuid number) ≡ None
 new_alone geometry uploads new number stands other =
     elim (cases_lt 1 number) [
-      | inl past ↦ stands.left.held.none_else number past (stands.are.none_else number past)
+      | inl past ↦ stands.left.held.none_else number (stands.are.none_else number past)
       | inr low ↦
           let none : number ≡ 0 = omega (arith, low, other) in
-          ap (λ n. found new (numbered_name script_uuid n)) none ∙ stands.left.lower.none
+          ap (λ n. found new (numbered_name script_uuid n)) none ∙ stands.left.held.none_else 0 stands.are.none_first
     ]
 
 pub new_volume : (geometry : Geometry) (disk : DiskState) (volume : SteppedVolume) (old new : Objects)
@@ -382,6 +385,14 @@ lands_all (put ∷ puts) [] count old new is lands =
 lands_all (put ∷ puts) (letter ∷ letters) zero old new is lands = absurd (omega (arith, is))
 lands_all (put ∷ puts) (letter ∷ letters) (suc count) old new is lands =
     (lands.0, lands.1, lands_all puts letters count lands.0 new (omega (arith, is)) lands.2)
+
+-- ---- a removal
+
+-- a store in memory fails no removal
+pub removed_told : {T E : Type 0} (result : Result T E) (name : ObjName) (old new : Objects) → Counts (is_err result) 0 0
+    → OnOk result (Becomes (IsRemoved name) (Some old) (Some new)) → IsRemoved name old new
+removed_told (Ok done) name old new counts becomes = becomes_told (IsRemoved name) old new becomes
+removed_told (Err failed) name old new counts becomes = absurd (no_fault counts)
 
 -- ---- a put
 

@@ -1,37 +1,37 @@
 -- What a stop leaves of the store of a rig, where some of the objects under way have landed.
 use Rattle.std.proofs.Common.{◌≡◌, ℕ, zero, suc, ◌+◌, ◌-◌, ◌<◌, ◌≤◌, ◌==◌, nat_eq, nat_le, Bool, true, false, cond, not, ◌&&◌}
 use Rattle.std.proofs.Common.{◌||◌, List, [], ◌∷◌}
-use Rattle.std.proofs.Common.{map, refl, sym, ◌∙◌, ap, subst, inl, inr, arith}
-use Rattle.std.specs.Prelude.{Option, Some, None, is_some, option_map, unwrap_or, slice_index_or}
+use Rattle.std.proofs.Common.{map, max, refl, sym, ◌∙◌, ap, subst, inl, inr, arith}
+use Rattle.std.specs.Prelude.{Option, Some, None, is_some, option_map, unwrap_or}
 use Rattle.std.specs.List.{AllByRecursion, list_any}
 use Rattle.std.proofs.Math.Bool.{or-true}
-use Rattle.std.proofs.lemmas.Bool.{cases_eq, cases_lt, eq-eqb, ne_eqb, le-leb, lt-leb, leb-true}
+use Rattle.std.proofs.lemmas.Bool.{cases_eq, eq-eqb, ne_eqb, le-leb, lt-leb, leb-true}
 use Rattle.lsvd_names.specs.Names.{numbered_name}
 use Rattle.lsvd_objstore.specs.Objects.{Objects, found}
 use Rattle.lsvd_names.specs.declared.name.ObjName.{ObjName}
 use Rattle.object_stream.specs.Landed.{Numbers}
-use Rattle.object_stream.specs.declared.owner.Owner.{Owner}
-use Rattle.object_stream.specs.Stream.{last_number}
+use Rattle.object_stream.specs.Stream.{end_at, last_number}
 use Rattle.stopped_volume.specs.Objects.{landed_in}
-use Rattle.stopped_volume.specs.Opening.{IsCheckpointOf, HasOpening}
 use Rattle.stopped_volume.specs.Store.{PutState, MayHoldPut}
-use Rattle.stopped_volume.specs.Store.PutState.{Acknowledged, Begun, NotBegun}
+use Rattle.stopped_volume.specs.Store.PutState.{Acknowledged, GivenOut, Begun, NotBegun}
 use Rattle.upload_window.specs.declared.object.OpenObject.{OpenObject}
-use Rattle.upload_window.specs.Window.{WindowState, IsAcknowledged, has_number, was_started, was_started_with}
+use Rattle.upload_window.specs.Window.{IsAcknowledged, Ascends, has_number, was_started, was_started_with}
+use Rattle.plain_disk.specs.declared.log.PlainCommit.{PlainCommit}
+use Rattle.plain_disk.specs.Log.{mounted_log, empty_from}
+use Rattle.plain_disk.specs.Cache.{cache_with}
+use Rattle.plain_disk.specs.Checkpoints.{checkpoint_at, newest_landed, landed_checkpoint}
+use Rattle.plain_disk.specs.Removals.{has, absent_of}
 use Rattle.plain_disk.specs.State.{PlainState, PlainCheckpoint, stream_in}
-use Rattle.plain_disk.specs.Stops.{landed_after, recovered_number}
-use Rattle.plain_disk.proofs.FirstLemmas.{landed_is_first}
-use Rattle.refine_store.specs.Puts.{IsObjectOf, state_of_put, AreBytesOfPut, ArePuts, HasLower, MayBeLeft}
-use Rattle.refine_store.proofs.LowerLemmas.{lower_of_first}
-use Rattle.vol_recover.proofs.BlankLemmas.{uuid_alone, opens_blank}
+use Rattle.plain_disk.specs.Stops.{landed_after, recovered_number, found_with, mounted_from, mounted_lost}
+use Rattle.refine_store.specs.Puts.{IsObjectOf, state_of_put, AreBytesOfPut, ArePuts, MayBeLeft}
 use Rattle.transcript.specs.Letters.{under_way, has_landed, landed_by}
 use Rattle.replay_rig.specs.Puts.{PutView}
 use Rattle.replay_rig.specs.Rig.{RigState, script_uuid, expected_of_plain, AreUnderWay, IsFirstUnderWay, HasBytesOfObject}
-use Rattle.replay_rig.specs.Rig.{OpensBlank, ShowsPlain, LandsAs, Lands}
+use Rattle.replay_rig.specs.Rig.{IsKeptObject, ShowsPlain, LandsAs, Lands}
 use Rattle.replay_rig.proofs.Describing.{lands_keep_volume}
 use Rattle.replay_rig.proofs.Stepped.{all_puts}
 use Rattle.replay_rig.proofs.WindowLemmas.{under_way_numbers}
-use Rattle.replay_rig.proofs.Putting.{open_within}
+use Rattle.replay_rig.proofs.Putting.{open_within, open_is_kept}
 
 -- ---- the objects under way
 
@@ -212,15 +212,21 @@ IsHeldAs plain state n bytes held = AreBytesOfPut state (expected_of_plain plain
 abbrev pub is_acked : PlainState → ℕ → Bool
 is_acked plain n = nat_le n plain.window.last && not (list_any (has_number n) plain.window.objects)
 
-acked_is : (plain : PlainState) (n : ℕ) → IsAcknowledged plain.window n → is_acked plain n ≡ true
-acked_is plain n is =
-    let low : nat_le n plain.window.last ≡ true = le-leb n plain.window.last is.was_entered in
-    let closed : list_any (has_number n) plain.window.objects ≡ false = is.not_open in
-    rw (low, closed) refl
+-- and was not removed
+abbrev pub is_there : PlainState → ℕ → Bool
+is_there plain n = is_acked plain n && not (has plain.removed n)
 
-unacked : (rig : RigState) (plain : PlainState) (n : ℕ) → ShowsPlain rig plain → is_acked plain n ≡ false
+kept_is : (plain : PlainState) (n : ℕ) → IsKeptObject plain n → is_there plain n ≡ true
+kept_is plain n is =
+    let low : nat_le n plain.window.last ≡ true = le-leb n plain.window.last is.acknowledged.was_entered in
+    let closed : list_any (has_number n) plain.window.objects ≡ false = is.acknowledged.not_open in
+    let kept : has plain.removed n ≡ false = is.kept in
+    rw (low, closed, kept) refl
+
+gone_object : (rig : RigState) (plain : PlainState) (n : ℕ) → ShowsPlain rig plain → is_there plain n ≡ false
     → found rig.objects (numbered_name script_uuid n) ≡ None
-unacked rig plain n h not_ = h.stored.none_else n (λ positive is. (let e : false ≡ true = sym not_ ∙ acked_is plain n is in cc))
+gone_object rig plain n h not_ =
+    h.stored.none_else n (λ is. (let e : false ≡ true = sym not_ ∙ kept_is plain n is in cc))
 
 and_parts : (a b : Bool) → (a && not b) ≡ true → (a ≡ true) × (b ≡ false)
 and_parts true true is = cc
@@ -231,6 +237,15 @@ acked : (plain : PlainState) (n : ℕ) → is_acked plain n ≡ true → IsAckno
 acked plain n is =
     let parts = and_parts (nat_le n plain.window.last) (list_any (has_number n) plain.window.objects) is in
     record { was_entered = leb-true n plain.window.last parts.0; not_open = parts.1 }
+
+kept : (plain : PlainState) (n : ℕ) → 0 < n → is_there plain n ≡ true → IsKeptObject plain n
+kept plain n some is =
+    let parts = and_parts (is_acked plain n) (has plain.removed n) is in
+    record { some = some; acknowledged = acked plain n parts.0; kept = parts.1 }
+
+and_true : (b : Bool) → (b && true) ≡ b
+and_true true = refl
+and_true false = refl
 
 -- a number up to the last that is not acknowledged is open
 open_else : (plain : PlainState) (n : ℕ) → n ≤ plain.window.last → is_acked plain n ≡ false
@@ -260,22 +275,33 @@ landed_or rig plain letters new n h lands =
     (under_way_numbers plain.window.objects rig.puts h.puts)
     (lands_at (IsPutOf plain) n rig.puts letters rig.objects new (puts_of rig plain h) lands)
 
--- which objects have landed
-landed_by_case : (rig : RigState) (plain : PlainState) (new : Objects) (n : ℕ) (a b : Bool) → ShowsPlain rig plain → 1 < n
-    → is_acked plain n ≡ a
+-- which objects have landed, from 1 on, and of those that were removed
+landed_by_case : (rig : RigState) (plain : PlainState) (new : Objects) (n : ℕ) (a b : Bool) → ShowsPlain rig plain
+    → (a ≡ true → 0 < n) → is_there plain n ≡ a
     → LandedOr (IsPutOf plain) n b rig.objects new → landed_in new (expected_of_plain plain) n ≡ (a || b)
-landed_by_case rig plain new n a true h past is at = ap is_some at.there ∙ sym (or-true a)
-landed_by_case rig plain new n true false h past is at =
-    let had = h.stored.acknowledged n past (acked plain n is) in
-    ap is_some (at ∙ had.1)
-landed_by_case rig plain new n false false h past is at = ap is_some (at ∙ unacked rig plain n h is)
+landed_by_case rig plain new n a true h some is at = ap is_some at.there ∙ sym (or-true a)
+landed_by_case rig plain new n true false h some is at =
+    (let had = h.stored.there n (kept plain n (some refl) is) in ap is_some (at ∙ had.1))
+landed_by_case rig plain new n false false h some is at = ap is_some (at ∙ gone_object rig plain n h is)
 
-pub landed_same : (rig : RigState) (plain : PlainState) (letters : List ℕ) (new : Objects) (n : ℕ) → ShowsPlain rig plain
-    → Lands rig.puts letters rig.objects new → 1 < n
-    → landed_in new (expected_of_plain plain) n ≡ landed_by plain.window letters n
-landed_same rig plain letters new n h lands past =
-    landed_by_case rig plain new n (is_acked plain n) (letter_of plain letters n) h past refl
-    (landed_or rig plain letters new n h lands)
+module _ (rig : RigState) (plain : PlainState) (letters : List ℕ) (new : Objects) (h : ShowsPlain rig plain)
+    (lands : Lands rig.puts letters rig.objects new) where
+  pub landed_same : (n : ℕ) → 0 < n → landed_in new (expected_of_plain plain) n ≡ landed_by plain letters n
+  landed_same n some =
+      landed_by_case rig plain new n (is_there plain n) (letter_of plain letters n) h (λ is. some) refl
+      (landed_or rig plain letters new n h lands)
+
+  not_there : (n : ℕ) → has plain.removed n ≡ true → is_there plain n ≡ false
+  not_there n removed =
+      ap (λ b. is_acked plain n && not b) removed
+      ∙ (elim (is_acked plain n) as (λ b. (b && false) ≡ false) [ true ↦ refl | false ↦ refl ])
+
+  pub landed_gone : (n : ℕ) → has plain.removed n ≡ true
+      → landed_in new (expected_of_plain plain) n ≡ landed_by plain letters n
+  landed_gone n removed =
+      landed_by_case rig plain new n (is_there plain n) (letter_of plain letters n) h
+      (λ is. (let e : false ≡ true = sym (not_there n removed) ∙ is in cc)) refl
+      (landed_or rig plain letters new n h lands)
 
 -- ---- the puts
 
@@ -301,144 +327,71 @@ object_of : (plain : PlainState) (n : ℕ) (put : PutView) → put.number ≡ n 
     → IsObjectOf (expected_of_plain plain) plain n put.bytes
 object_of plain n put is has = subst (λ k. IsObjectOf (expected_of_plain plain) plain k put.bytes) is has
 
-begun_state : (window : WindowState) (n : ℕ) → was_started n window.objects ≡ true → state_of_put window n ≡ Begun
-begun_state window n was = ap (λ b. cond b Begun (cond (list_any (has_number n) window.objects) NotBegun Acknowledged)) was
+-- its state where its put began, where it is open, and else
+abbrev rest_of_state : PlainState → (n : ℕ) → (is_open : Bool) → PutState
+rest_of_state plain n is_open = cond is_open NotBegun (cond (has plain.given_out n) GivenOut Acknowledged)
 
-waiting_state : (window : WindowState) (n : ℕ) → was_started n window.objects ≡ false
-    → list_any (has_number n) window.objects ≡ true
-    → state_of_put window n ≡ NotBegun
-waiting_state window n never is_open =
-    ap (λ b. cond b Begun (cond (list_any (has_number n) window.objects) NotBegun Acknowledged)) never
-    ∙ ap (λ b. cond b NotBegun Acknowledged) is_open
+begun_state : (plain : PlainState) (n : ℕ) → was_started n plain.window.objects ≡ true → state_of_put plain n ≡ Begun
+begun_state plain n was = ap (λ b. cond b Begun (rest_of_state plain n (list_any (has_number n) plain.window.objects))) was
 
-done_state : (window : WindowState) (n : ℕ) → list_any (has_number n) window.objects ≡ false
-    → state_of_put window n ≡ Acknowledged
-done_state window n closed =
-    let never : was_started n window.objects ≡ false =
-    (elim (was_started n window.objects) as (λ b. was_started n window.objects ≡ b → b ≡ false) [
-      | true ↦ λ was. (let e : false ≡ true = sym closed ∙ started_is_open n window.objects was in cc)
+waiting_state : (plain : PlainState) (n : ℕ) → was_started n plain.window.objects ≡ false
+    → list_any (has_number n) plain.window.objects ≡ true → state_of_put plain n ≡ NotBegun
+waiting_state plain n never is_open =
+    ap (λ b. cond b Begun (rest_of_state plain n (list_any (has_number n) plain.window.objects))) never
+    ∙ ap (rest_of_state plain n) is_open
+
+pub done_state : (plain : PlainState) (n : ℕ) → list_any (has_number n) plain.window.objects ≡ false
+    → has plain.given_out n ≡ false → state_of_put plain n ≡ Acknowledged
+done_state plain n closed not_given =
+    let never : was_started n plain.window.objects ≡ false =
+    (elim (was_started n plain.window.objects) as (λ b. was_started n plain.window.objects ≡ b → b ≡ false) [
+      | true ↦ λ was. (let e : false ≡ true = sym closed ∙ started_is_open n plain.window.objects was in cc)
       | false ↦ λ never. refl
     ]) refl in
-    ap (λ b. cond b Begun (cond (list_any (has_number n) window.objects) NotBegun Acknowledged)) never
-    ∙ ap (λ b. cond b NotBegun Acknowledged) closed
+    ap (λ b. cond b Begun (rest_of_state plain n (list_any (has_number n) plain.window.objects))) never
+    ∙ ap (rest_of_state plain n) closed
+    ∙ ap (λ b. cond b GivenOut Acknowledged) not_given
 
-held_case : (rig : RigState) (plain : PlainState) (new : Objects) (n : ℕ) (a b s : Bool) → ShowsPlain rig plain → 1 < n
-    → n ≤ plain.window.last
-    → is_acked plain n ≡ a → was_started n plain.window.objects ≡ s → LandedOr (IsPutOf plain) n b rig.objects new
-    → IsHeldAs plain (state_of_put plain.window n) n (bytes_now new rig.puts n) (found new (numbered_name script_uuid n))
-held_case rig plain new n a true s h past low is was at =
+-- what an object is held as that was not removed, where it is of this state
+abbrev HeldNow : (rig : RigState) (plain : PlainState) (new : Objects) (n : ℕ) → PutState → Type 0
+HeldNow rig plain new n state = IsHeldAs plain state n (bytes_now new rig.puts n) (found new (numbered_name script_uuid n))
+
+held_case : (rig : RigState) (plain : PlainState) (new : Objects) (n : ℕ) (a b s : Bool) → ShowsPlain rig plain → 0 < n
+    → n ≤ plain.window.last → has plain.removed n ≡ false
+    → is_there plain n ≡ a → was_started n plain.window.objects ≡ s → LandedOr (IsPutOf plain) n b rig.objects new
+    → HeldNow rig plain new n (state_of_put plain n)
+held_case rig plain new n a true s h past low stays is was at =
     let started : was_started n plain.window.objects ≡ true = subst (λ k. was_started k plain.window.objects ≡ true) at.number
     at.has.1 in
-    subst (λ state. IsHeldAs plain state n (bytes_now new rig.puts n) (found new (numbered_name script_uuid n)))
-    (sym (begun_state plain.window n started))
+    subst (HeldNow rig plain new n) (sym (begun_state plain n started))
     (held_begun plain n (found new (numbered_name script_uuid n)) at.put.bytes _ at.there
     (object_of plain n at.put at.number at.has.0))
-held_case rig plain new n true false s h past low is was at =
-    let had = h.stored.acknowledged n past (acked plain n is) in
-    subst (λ state. IsHeldAs plain state n (bytes_now new rig.puts n) (found new (numbered_name script_uuid n)))
-    (sym (done_state plain.window n (acked plain n is).not_open))
+held_case rig plain new n true false s h past low stays is was at =
+    let own = kept plain n past is in
+    let had = h.stored.there n own in
+    let not_given : has plain.given_out n ≡ false = ap (λ numbers. has numbers n) h.removes.gone ∙ stays in
+    subst (HeldNow rig plain new n) (sym (done_state plain n own.acknowledged.not_open not_given))
     (held_acked plain n (found new (numbered_name script_uuid n)) had.0 _ (at ∙ had.1) had.2)
-held_case rig plain new n false false true h past low is was at =
+held_case rig plain new n false false true h past low stays is was at =
     let put = under_way_with (IsPutOf plain) n plain.window.objects rig.puts h.puts (puts_of rig plain h) was in
     let rest : unwrap_or (option_map (λ (p : PutView). p.bytes) (put_with n rig.puts)) [] ≡ put.put.bytes =
     ap (λ p. unwrap_or (option_map (λ (q : PutView). q.bytes) p) []) put.is in
-    subst (λ state. IsHeldAs plain state n (bytes_now new rig.puts n) (found new (numbered_name script_uuid n)))
-    (sym (begun_state plain.window n was))
-    (held_not_yet plain n (found new (numbered_name script_uuid n)) _ (at ∙ unacked rig plain n h is)
+    subst (HeldNow rig plain new n) (sym (begun_state plain n was))
+    (held_not_yet plain n (found new (numbered_name script_uuid n)) _ (at ∙ gone_object rig plain n h is)
     (subst (IsObjectOf (expected_of_plain plain) plain n) (sym rest) (object_of plain n put.put put.number put.has.0)))
-held_case rig plain new n false false false h past low is was at =
-    subst (λ state. IsHeldAs plain state n (bytes_now new rig.puts n) (found new (numbered_name script_uuid n)))
-    (sym (waiting_state plain.window n was (open_else plain n low is)))
-    (tt, at ∙ unacked rig plain n h is)
+held_case rig plain new n false false false h past low stays is was at =
+    let unacked : is_acked plain n ≡ false = sym (and_true (is_acked plain n)) ∙ ap (λ b. is_acked plain n && not b) (sym stays)
+    ∙ is in
+    subst (HeldNow rig plain new n) (sym (waiting_state plain n was (open_else plain n low unacked)))
+    (tt, at ∙ gone_object rig plain n h is)
 
 held_as : (rig : RigState) (plain : PlainState) (letters : List ℕ) (new : Objects) (n : ℕ) → ShowsPlain rig plain
     → Lands rig.puts letters rig.objects new
-    → 1 < n → n ≤ plain.window.last
-    → IsHeldAs plain (state_of_put plain.window n) n (bytes_now new rig.puts n) (found new (numbered_name script_uuid n))
-held_as rig plain letters new n h lands past low =
-    held_case rig plain new n (is_acked plain n) (letter_of plain letters n) (was_started n plain.window.objects) h past
-    low refl refl
+    → 0 < n → n ≤ plain.window.last → has plain.removed n ≡ false → HeldNow rig plain new n (state_of_put plain n)
+held_as rig plain letters new n h lands past low stays =
+    held_case rig plain new n (is_there plain n) (letter_of plain letters n) (was_started n plain.window.objects) h past
+    low stays refl refl
     (landed_or rig plain letters new n h lands)
-
--- the puts of a rig, by what the store has then
-abbrev pub puts_now : PlainState → List PutView → Objects → ℕ → Option (PutState × List ℕ)
-puts_now plain puts new n = cond (nat_le n plain.window.last) (Some (state_of_put plain.window n, bytes_now new puts n)) None
-
--- an object under way is past the first, and none past the last
-landed_within : (rig : RigState) (plain : PlainState) (n : ℕ) (new : Objects) → ShowsPlain rig plain
-    → IsLandedAt (IsPutOf plain) n new
-    → (1 < n) × (n ≤ plain.window.last)
-landed_within rig plain n new h at =
-    let started : was_started n plain.window.objects ≡ true = subst (λ k. was_started k plain.window.objects ≡ true) at.number
-    at.has.1 in
-    let within = open_within n 0 plain.window.objects plain.window.last h.shows.valid.window.order
-    (started_is_open n plain.window.objects started) in
-    let opened = h.shows.valid.opened in
-    let first = h.opens.number in
-    (omega (arith, within.0, opened, first), within.1)
-
--- a number at which none has landed is as it was
-unlanded_case : (rig : RigState) (plain : PlainState) (n : ℕ) (new : Objects) (b : Bool) → ShowsPlain rig plain
-    → LandedOr (IsPutOf plain) n b rig.objects new
-    → ((1 < n) × (n ≤ plain.window.last) → ⊥)
-    → found new (numbered_name script_uuid n) ≡ found rig.objects (numbered_name script_uuid n)
-unlanded_case rig plain n new true h at out = absurd (out (landed_within rig plain n new h at))
-unlanded_case rig plain n new false h at out = at
-
-pub unlanded : (rig : RigState) (plain : PlainState) (letters : List ℕ) (new : Objects) (n : ℕ) → ShowsPlain rig plain
-    → Lands rig.puts letters rig.objects new → ((1 < n) × (n ≤ plain.window.last) → ⊥)
-    → found new (numbered_name script_uuid n) ≡ found rig.objects (numbered_name script_uuid n)
-unlanded rig plain letters new n h lands out =
-    unlanded_case rig plain n new (letter_of plain letters n) h (landed_or rig plain letters new n h lands) out
-
--- nothing is past the last, nor at 0
-pub none_past : (rig : RigState) (plain : PlainState) (letters : List ℕ) (new : Objects) (n : ℕ) → ShowsPlain rig plain
-    → Lands rig.puts letters rig.objects new → plain.window.last < n → found new (numbered_name script_uuid n) ≡ None
-none_past rig plain letters new n h lands past =
-    unlanded rig plain letters new n h lands (λ within. absurd (omega (arith, within.1, past)))
-    ∙ h.stored.none_else n (λ positive is. (let most = is.was_entered in absurd (omega (arith, most, past))))
-
-pub none_first : (rig : RigState) (plain : PlainState) (letters : List ℕ) (new : Objects) → ShowsPlain rig plain
-    → Lands rig.puts letters rig.objects new → found new (numbered_name script_uuid 0) ≡ None
-none_first rig plain letters new h lands =
-    unlanded rig plain letters new 0 h lands (λ within. absurd (omega (arith, within.0)))
-    ∙ h.stored.none_else 0 (λ positive is. absurd (omega (arith, positive)))
-
--- the first object stays
-pub checkpoint_stays : (rig : RigState) (plain : PlainState) (letters : List ℕ) (new : Objects) → ShowsPlain rig plain
-    → Lands rig.puts letters rig.objects new → IsCheckpointOf (expected_of_plain plain) new 1 0 (λ k. None)
-checkpoint_stays rig plain letters new h lands =
-    let first = h.stored.first in
-    record {
-      bytes = first.bytes;
-      present = unlanded rig plain letters new 1 h lands (λ within. absurd (omega (arith, within.0))) ∙ first.present;
-      rows = first.rows;
-      is_checkpoint = first.is_checkpoint;
-      says = first.says;
-    }
-
--- the puts that are known
-puts_within : (plain : PlainState) (puts : List PutView) (new : Objects) (n : ℕ) → n ≤ plain.window.last
-    → puts_now plain puts new n ≡ Some (state_of_put plain.window n, bytes_now new puts n)
-puts_within plain puts new n low = (let e : nat_le n plain.window.last ≡ true = le-leb n plain.window.last low in rw e refl)
-
-puts_past : (plain : PlainState) (puts : List PutView) (new : Objects) (n : ℕ) → plain.window.last < n
-    → puts_now plain puts new n ≡ None
-puts_past plain puts new n past = (let e : nat_le n plain.window.last ≡ false = lt-leb n plain.window.last past in rw e refl)
-
-pub are_puts : (rig : RigState) (plain : PlainState) (letters : List ℕ) (new : Objects) → ShowsPlain rig plain
-    → Lands rig.puts letters rig.objects new
-    → ArePuts (expected_of_plain plain) plain (puts_now plain rig.puts new)
-are_puts rig plain letters new h lands =
-    let first = h.opens.number in
-    record {
-      known = λ n past low. (
-        bytes_now new rig.puts n,
-        puts_within plain rig.puts new n low,
-        (held_as rig plain letters new n h lands (omega (arith, past, first)) low).0,
-      );
-      none_else = λ n past. puts_past plain rig.puts new n past;
-    }
 
 -- what a store may hold of a put that is known
 may_hold : (plain : PlainState) (state known : PutState) (bytes told : List ℕ) (held : Option (List ℕ))
@@ -449,65 +402,127 @@ may_hold plain state known bytes told held is holds =
     ap (λ (o : Option (PutState × List ℕ)). unwrap_or o (state, bytes)) is in
     subst (λ (p : PutState × List ℕ). MayHoldPut p.0 p.1 held) same holds
 
--- a volume that opens blank has its opening, where the first object stands
-opens_there : (plain : PlainState) (objects : Objects) → OpensBlank plain
-    → IsCheckpointOf (expected_of_plain plain) objects 1 0 (λ k. None)
-    → HasOpening (expected_of_plain plain) (uuid_alone script_uuid) objects (stream_in plain) plain.opening
-opens_there plain objects opens first =
-    let volume = expected_of_plain plain in
-    let none : (k : ℕ) → (stream_in plain).opening k ≡ None =
-    λ k. ap (λ (os : List (Option Owner)). slice_index_or os k None) opens.owned in
-    let moved : IsCheckpointOf volume objects plain.number plain.end (λ k. None) =
-    subst (λ n. IsCheckpointOf volume objects n plain.end (λ k. None)) (sym opens.number)
-    (subst (λ e. IsCheckpointOf volume objects 1 e (λ k. None)) (sym opens.end) first) in
-    let there : IsCheckpointOf volume objects plain.number plain.end (stream_in plain).opening =
-    record {
-      bytes = moved.bytes;
-      present = moved.present;
-      rows = moved.rows;
-      is_checkpoint = moved.is_checkpoint;
-      says = λ k. none k ∙ moved.says k;
-    } in
-    subst (HasOpening volume (uuid_alone script_uuid) objects (stream_in plain)) (sym opens.opening)
-    (opens_blank volume (uuid_alone script_uuid) objects (stream_in plain) plain.geometry.sectors there none)
+-- an object that was removed has no put, nor has one that was never sealed
+abbrev pub is_known : PlainState → ℕ → Bool
+is_known plain n = nat_le 1 n && nat_le n plain.window.last && not (has plain.removed n)
 
-pub may_be_left : (rig : RigState) (plain : PlainState) (letters : List ℕ) (new : Objects) → (h : ShowsPlain rig plain)
-    → Lands rig.puts letters rig.objects new
-    → MayBeLeft script_uuid h.epoch plain (puts_now plain rig.puts new) new
-may_be_left rig plain letters new h lands =
-    let opens = h.opens in
-    let first = opens.number in
+-- the puts of a rig, by what the store has then
+abbrev pub puts_now : PlainState → List PutView → Objects → ℕ → Option (PutState × List ℕ)
+puts_now plain puts new n = cond (is_known plain n) (Some (state_of_put plain n, bytes_now new puts n)) None
+
+known_is : (plain : PlainState) (n : ℕ) → 0 < n → n ≤ plain.window.last → has plain.removed n ≡ false → is_known plain n ≡ true
+known_is plain n some low stays =
+    let a : nat_le 1 n ≡ true = le-leb 1 n (omega (arith, some)) in
+    let b : nat_le n plain.window.last ≡ true = le-leb n plain.window.last low in
+    rw (a, b, stays) refl
+
+-- one that is known is from 1 on, not past the last, and was not removed
+record IsKnown (plain : PlainState) (n : ℕ) : Type 0 where
+  some : 0 < n
+  low : n ≤ plain.window.last
+  stays : has plain.removed n ≡ false
+
+both_parts : (a b : Bool) → (a && b) ≡ true → (a ≡ true) × (b ≡ true)
+both_parts true b is = (refl, is)
+both_parts false b is = cc
+
+known : (plain : PlainState) (n : ℕ) → is_known plain n ≡ true → IsKnown plain n
+known plain n is =
+    let parts = and_parts (nat_le 1 n && nat_le n plain.window.last) (has plain.removed n) is in
+    let within = both_parts (nat_le 1 n) (nat_le n plain.window.last) parts.0 in
     record {
-      described = lands_keep_volume rig.puts letters rig.objects new plain.geometry h.epoch lands h.described;
-      opened = opens.checkpoint ∙ sym opens.number;
-      alone = h.shows.alone;
-      uuid_at = uuid_alone script_uuid;
-      own = refl;
-      opens = opens_there plain new opens (checkpoint_stays rig plain letters new h lands);
-      lower =
-          subst (λ n. HasLower (expected_of_plain plain) n new) (sym first)
-          (lower_of_first (expected_of_plain plain) new (none_first rig plain letters new h lands));
-      held = record {
-        puts_are = λ n state bytes past is. elim (cases_lt plain.window.last n) [
-          | inl late ↦
-              (let e : ◌≡◌ {A = Option (PutState × List ℕ)} None (Some (state, bytes)) =
-              sym (puts_past plain rig.puts new n late) ∙ is in cc)
-          | inr low ↦
-              let within : n ≤ plain.window.last = omega (arith, low) in
-              may_hold plain (state_of_put plain.window n) state (bytes_now new rig.puts n) bytes
-              (found new (numbered_name script_uuid n))
-              (sym (puts_within plain rig.puts new n within) ∙ is)
-              (held_as rig plain letters new n h lands (omega (arith, past, first)) within).1
-        ];
-        none_else = λ n past is. elim (cases_lt plain.window.last n) [
-          | inl late ↦ none_past rig plain letters new n h lands late
-          | inr low ↦
-              let within : n ≤ plain.window.last = omega (arith, low) in
-              (let e : ◌≡◌ {A = Option (PutState × List ℕ)} (Some (state_of_put plain.window n, bytes_now new rig.puts n)) None =
-              sym (puts_within plain rig.puts new n within) ∙ is in cc)
-        ];
-      };
+      some = (let least = leb-true 1 n within.0 in omega (arith, least));
+      low = leb-true n plain.window.last within.1;
+      stays = parts.1;
     }
+
+-- a number that is not known is none of an object on its way
+module _ (rig : RigState) (plain : PlainState) (letters : List ℕ) (new : Objects) (h : ShowsPlain rig plain)
+    (lands : Lands rig.puts letters rig.objects new) where
+  known_if_open : (n : ℕ) → list_any (has_number n) plain.window.objects ≡ true → is_known plain n ≡ true
+  known_if_open n is =
+      let within = open_within n 0 plain.window.objects plain.window.last h.shows.valid.window.order is in
+      known_is plain n (omega (arith, within.0)) within.1 (open_is_kept n rig plain h is)
+
+  -- a number at which none has landed is as it was
+  unlanded_case : (n : ℕ) (b : Bool) → LandedOr (IsPutOf plain) n b rig.objects new
+      → (list_any (has_number n) plain.window.objects ≡ true → ⊥)
+      → found new (numbered_name script_uuid n) ≡ found rig.objects (numbered_name script_uuid n)
+  unlanded_case n true at out =
+      let started : was_started n plain.window.objects ≡ true =
+      subst (λ k. was_started k plain.window.objects ≡ true) at.number at.has.1 in
+      absurd (out (started_is_open n plain.window.objects started))
+  unlanded_case n false at out = at
+
+  -- nothing is under a number that is not known
+  pub none_unknown : (n : ℕ) → is_known plain n ≡ false → found new (numbered_name script_uuid n) ≡ None
+  none_unknown n unknown =
+      unlanded_case n (letter_of plain letters n) (landed_or rig plain letters new n h lands)
+      (λ is. (let e : false ≡ true = sym unknown ∙ known_if_open n is in cc))
+      ∙ h.stored.none_else n (λ is.
+      (let e : false ≡ true = sym unknown ∙ known_is plain n is.some is.acknowledged.was_entered is.kept in cc))
+
+  unknown_past : (n : ℕ) → plain.window.last < n → is_known plain n ≡ false
+  unknown_past n past =
+      let e : nat_le n plain.window.last ≡ false = lt-leb n plain.window.last past in
+      ap (λ b. nat_le 1 n && b && not (has plain.removed n)) e
+      ∙ (elim (nat_le 1 n) as (λ b. (b && false && not (has plain.removed n)) ≡ false) [ true ↦ refl | false ↦ refl ])
+
+  unknown_gone : (n : ℕ) → has plain.removed n ≡ true → is_known plain n ≡ false
+  unknown_gone n gone =
+      ap (λ b. (nat_le 1 n && nat_le n plain.window.last) && not b) gone
+      ∙ (elim (nat_le 1 n && nat_le n plain.window.last) as (λ b. (b && false) ≡ false) [ true ↦ refl | false ↦ refl ])
+
+  -- nothing is past the last
+  pub none_past : (n : ℕ) → plain.window.last < n → found new (numbered_name script_uuid n) ≡ None
+  none_past n past = none_unknown n (unknown_past n past)
+
+  none_put : (n : ℕ) → is_known plain n ≡ false → puts_now plain rig.puts new n ≡ None
+  none_put n unknown = ap (λ b. cond b (Some (state_of_put plain n, bytes_now new rig.puts n)) None) unknown
+
+  some_put : (n : ℕ) → is_known plain n ≡ true
+      → puts_now plain rig.puts new n ≡ Some (state_of_put plain n, bytes_now new rig.puts n)
+  some_put n is = ap (λ b. cond b (Some (state_of_put plain n, bytes_now new rig.puts n)) None) is
+
+  pub are_puts : ArePuts (expected_of_plain plain) plain (puts_now plain rig.puts new)
+  are_puts = record {
+    known = λ n some low stays. (
+      bytes_now new rig.puts n,
+      some_put n (known_is plain n some low stays),
+      (held_as rig plain letters new n h lands some low stays).0,
+    );
+    removed = λ n gone. none_put n (unknown_gone n gone);
+    none_first = none_put 0 refl;
+    none_else = λ n past. none_put n (unknown_past n past);
+  }
+
+  puts_held : (n : ℕ) (state : PutState) (bytes : List ℕ) (b : Bool) → is_known plain n ≡ b
+      → puts_now plain rig.puts new n ≡ Some (state, bytes)
+      → MayHoldPut state bytes (found new (numbered_name script_uuid n))
+  puts_held n state bytes true is there =
+      let own = known plain n is in
+      may_hold plain (state_of_put plain n) state (bytes_now new rig.puts n) bytes (found new (numbered_name script_uuid n))
+      (sym (some_put n is) ∙ there) (held_as rig plain letters new n h lands own.some own.low own.stays).1
+  puts_held n state bytes false unknown there =
+      (let e : ◌≡◌ {A = Option (PutState × List ℕ)} None (Some (state, bytes)) = sym (none_put n unknown) ∙ there in cc)
+
+  none_held : (n : ℕ) (b : Bool) → is_known plain n ≡ b → puts_now plain rig.puts new n ≡ None
+      → found new (numbered_name script_uuid n) ≡ None
+  none_held n true is none =
+      (let e : ◌≡◌ {A = Option (PutState × List ℕ)} (Some (state_of_put plain n, bytes_now new rig.puts n)) None =
+      sym (some_put n is) ∙ none in cc)
+  none_held n false unknown none = none_unknown n unknown
+
+  pub may_be_left : MayBeLeft script_uuid h.epoch plain (puts_now plain rig.puts new) new
+  may_be_left = record {
+    described = lands_keep_volume rig.puts letters rig.objects new plain.geometry h.epoch lands h.described;
+    blank = h.opens;
+    seals = h.seals;
+    held = record {
+      puts_are = λ n state bytes is. puts_held n state bytes (is_known plain n) refl is;
+      none_else = λ n is. none_held n (is_known plain n) refl is;
+    };
+  }
 
 -- ---- what is recovered
 
@@ -519,47 +534,80 @@ landed_as landed other number (suc count) same =
     ap (λ b. cond b (landed_after landed (number + 1) count) number) (same (number + 1) (omega arith))
     ∙ ap (λ k. cond (other (number + 1)) k number) more
 
-pub recovered_same : (rig : RigState) (plain : PlainState) (letters : List ℕ) (new : Objects) → ShowsPlain rig plain
-    → Lands rig.puts letters rig.objects new
-    → recovered_number (landed_in new (expected_of_plain plain)) plain ≡ recovered_number (landed_by plain.window letters) plain
-recovered_same rig plain letters new h lands =
-    let first = h.opens.checkpoint in
-    let last = last_number (stream_in plain) in
-    let there = landed_in new (expected_of_plain plain) in
-    let by_letters = landed_by plain.window letters in
-    let From : Numbers → PlainCheckpoint → ℕ = λ landed c. landed_after landed c.number (last - c.number) in
-    ap (From there) (landed_is_first plain there h.shows.alone)
-    ∙ landed_as there by_letters plain.checkpoint.number (last - plain.checkpoint.number)
-    (λ n past. landed_same rig plain letters new n h lands (omega (arith, past, first)))
-    ∙ sym (ap (From by_letters) (landed_is_first plain by_letters h.shows.alone))
+-- the newest checkpoint of open objects, from 1 on
+newest_as : (landed other : Numbers) (plain : PlainState) (before : PlainCheckpoint) (low : ℕ) (objects : List OpenObject)
+    (last : ℕ) → Ascends low objects last → ((n : ℕ) → 0 < n → landed n ≡ other n)
+    → newest_landed landed plain before objects ≡ newest_landed other plain before objects
+newest_as landed other plain before low [] last order same = refl
+newest_as landed other plain before low (object ∷ objects) last order same =
+    let next : Numbers → PlainCheckpoint =
+    λ numbers. cond (object.is_checkpoint && numbers object.number) (checkpoint_at object.number plain) before in
+    let here : next landed ≡ next other =
+    ap (λ b. cond (object.is_checkpoint && b) (checkpoint_at object.number plain) before)
+    (same object.number (omega (arith, order.0))) in
+    newest_as landed other plain (next landed) object.number objects last order.1 same
+    ∙ ap (λ c. newest_landed other plain c objects) here
 
--- ---- the objects that are left
+-- those of some numbers of which tests agree
+absent_as : (landed other : Numbers) (numbers : List ℕ) → ((n : ℕ) → has numbers n ≡ true → landed n ≡ other n)
+    → absent_of landed numbers ≡ absent_of other numbers
+absent_as landed other [] same = refl
+absent_as landed other (n ∷ numbers) same =
+    let here : landed n ≡ other n = same n (ap (λ b. b || has numbers n) (eq-eqb n n refl)) in
+    let rest = absent_as landed other numbers (λ k is. same k (ap (λ b. (n == k) || b) is ∙ or-true (n == k))) in
+    ap (λ b. cond (not b) (n ∷ absent_of landed numbers) (absent_of landed numbers)) here
+    ∙ ap (λ list. cond (not (other n)) (n ∷ list) list) rest
 
--- an object past the first that the store has is the plain volume's
-object_held : (plain : PlainState) (state : PutState) (n : ℕ) (told bytes : List ℕ) (held : Option (List ℕ)) → held ≡ Some bytes
-    → IsHeldAs plain state n told held → IsObjectOf (expected_of_plain plain) plain n bytes
-object_held plain Acknowledged n told bytes held is has =
-    let same : told ≡ bytes = (let e = sym has.1 ∙ is in cc) in
-    subst (IsObjectOf (expected_of_plain plain) plain n) same has.0
-object_held plain Begun n told bytes held is has = elim has.1 [
-  | inl none ↦ absurd (let e : ◌≡◌ {A = Option (List ℕ)} None (Some bytes) = sym none ∙ is in cc)
-  | inr there ↦
-      let same : told ≡ bytes = (let e = sym there ∙ is in cc) in
-      subst (IsObjectOf (expected_of_plain plain) plain n) same has.0
-]
-object_held plain NotBegun n told bytes held is has =
-    absurd (let e : ◌≡◌ {A = Option (List ℕ)} None (Some bytes) = sym has.1 ∙ is in cc)
+-- what a mount makes of a plain volume, by the number that it recovers, the newest checkpoint and what is gone
+abbrev made_kept : (found : PlainCommit) → PlainState → (number : ℕ) → PlainCheckpoint → (gone : List ℕ) → PlainState
+made_kept found plain number checkpoint gone =
+    record (found_with number (max (end_at (stream_in plain) number) found.head.seq) checkpoint gone plain) {
+      cache = cache_with (mounted_log found (end_at (stream_in plain) number) plain.cache.log);
+    }
 
-pub left_object : (rig : RigState) (plain : PlainState) (letters : List ℕ) (new : Objects) (n : ℕ) (bytes : List ℕ)
-    → ShowsPlain rig plain
-    → Lands rig.puts letters rig.objects new → 1 < n → found new (numbered_name script_uuid n) ≡ Some bytes
-    → IsObjectOf (expected_of_plain plain) plain n bytes
-left_object rig plain letters new n bytes h lands past there = elim (cases_lt plain.window.last n) [
-  | inl late ↦
-      absurd (let e : ◌≡◌ {A = Option (List ℕ)} None (Some bytes) = sym (none_past rig plain letters new n h lands late)
-      ∙ there in cc)
-  | inr low ↦
-      object_held plain (state_of_put plain.window n) n (bytes_now new rig.puts n) bytes
-      (found new (numbered_name script_uuid n)) there
-      (held_as rig plain letters new n h lands past (omega (arith, low)))
-]
+abbrev made_lost : PlainState → (number : ℕ) → PlainCheckpoint → (gone : List ℕ) → PlainState
+made_lost plain number checkpoint gone =
+    record (found_with number (end_at (stream_in plain) number) checkpoint gone plain) {
+      cache = cache_with (empty_from plain.cache.log.size (end_at (stream_in plain) number));
+    }
+
+module _ (rig : RigState) (plain : PlainState) (letters : List ℕ) (new : Objects) (h : ShowsPlain rig plain)
+    (lands : Lands rig.puts letters rig.objects new) where
+  abbrev there : Numbers
+  there = landed_in new (expected_of_plain plain)
+
+  abbrev by_letters : Numbers
+  by_letters = landed_by plain letters
+
+  same_checkpoint : landed_checkpoint there plain ≡ landed_checkpoint by_letters plain
+  same_checkpoint =
+      newest_as there by_letters plain plain.checkpoint 0 plain.window.objects plain.window.last
+      h.shows.valid.window.order (landed_same rig plain letters new h lands)
+
+  same_absent : absent_of there plain.given_out ≡ absent_of by_letters plain.given_out
+  same_absent =
+      absent_as there by_letters plain.given_out (λ n is.
+      landed_gone rig plain letters new h lands n (ap (λ numbers. has numbers n) (sym h.removes.gone) ∙ is))
+
+  pub recovered_same : recovered_number there plain ≡ recovered_number by_letters plain
+  recovered_same =
+      let last = last_number (stream_in plain) in
+      let From : Numbers → PlainCheckpoint → ℕ = λ landed c. landed_after landed c.number (last - c.number) in
+      landed_as there by_letters (landed_checkpoint there plain).number (last - (landed_checkpoint there plain).number)
+      (λ n past. landed_same rig plain letters new h lands n (omega (arith, past)))
+      ∙ ap (From by_letters) same_checkpoint
+
+  module _ (made : ℕ → PlainCheckpoint → List ℕ → PlainState) where
+    made_same : made (recovered_number there plain) (landed_checkpoint there plain) (absent_of there plain.given_out)
+        ≡ made (recovered_number by_letters plain) (landed_checkpoint by_letters plain) (absent_of by_letters plain.given_out)
+    made_same =
+        ap (λ number. made number (landed_checkpoint there plain) (absent_of there plain.given_out)) recovered_same
+        ∙ ap (λ checkpoint. made (recovered_number by_letters plain) checkpoint (absent_of there plain.given_out))
+        same_checkpoint
+        ∙ ap (made (recovered_number by_letters plain) (landed_checkpoint by_letters plain)) same_absent
+
+  pub kept_same : (found : PlainCommit) → mounted_from there found plain ≡ mounted_from by_letters found plain
+  kept_same found = made_same (made_kept found plain)
+
+  pub lost_same : mounted_lost there plain ≡ mounted_lost by_letters plain
+  lost_same = made_same (made_lost plain)

@@ -2,7 +2,7 @@
 use Rattle.std.proofs.Common.{ℕ, Bool, true, false, List, [], ◌∷◌, ◌==◌, sym, subst, inl, inr}
 use Rattle.lsvd_base.specs.declared.geometry.Geometry.{Geometry}
 use Rattle.lsvd_names.specs.Names.{numbered_name}
-use Rattle.lsvd_objstore.specs.Objects.{Objects, IsPut}
+use Rattle.lsvd_objstore.specs.Objects.{Objects, IsPut, IsRemoved}
 use Rattle.stopped_volume.specs.Super.{HasVolume}
 use Rattle.super_recovery.specs.Laws.{KeepsVolume}
 use Rattle.super_recovery.proofs.LawLemmas.{says_the_same, others_keep_volume}
@@ -16,6 +16,15 @@ pub put_keeps_volume : (n : ℕ) (bytes : List ℕ) (old new : Objects) (geometr
 put_keeps_volume n bytes old new geometry epoch put has =
     let keeps : KeepsVolume script_uuid old new =
     others_keep_volume script_uuid (numbered_name script_uuid n) old new (inl tt) (inr (inl (bytes, inr put))) in
+    (says_the_same script_uuid old new keeps).has geometry epoch has
+
+-- an object was removed
+pub removed_keeps_volume : (n : ℕ) (old new : Objects) (geometry : Geometry) (epoch : ℕ)
+    → IsRemoved (numbered_name script_uuid n) old new
+    → HasVolume script_uuid geometry epoch old → HasVolume script_uuid geometry epoch new
+removed_keeps_volume n old new geometry epoch removed has =
+    let keeps : KeepsVolume script_uuid old new =
+    others_keep_volume script_uuid (numbered_name script_uuid n) old new (inl tt) (inr (inr (inr removed))) in
     (says_the_same script_uuid old new keeps).has geometry epoch has
 
 as_keeps_volume : (has_landed : Bool) (put : PutView) (old new : Objects) (geometry : Geometry) (epoch : ℕ)

@@ -1,5 +1,5 @@
 -- What a rig answers of its plain volume, and how it shows one whose device is told to stop.
-use Rattle.std.proofs.Common.{◌≡◌, ℕ, ◌+◌, true, List, [], ◌∷◌, length, refl, sym, ◌∙◌, ap, subst, arith}
+use Rattle.std.proofs.Common.{◌≡◌, ℕ, ◌+◌, true, List, [], ◌∷◌, length, refl, sym, ◌∙◌, ap, subst, inl, inr, arith}
 use Rattle.std.specs.Prelude.{Option, Some, None, is_some, IsTrue}
 use Rattle.std.specs.List.{AllByRecursion}
 use Rattle.std.proofs.lemmas.List.{length-map}
@@ -13,6 +13,8 @@ use Rattle.cache_log.specs.Log.{LogState}
 use Rattle.plain_disk.specs.Cache.{PlainCache}
 use Rattle.plain_disk.specs.State.{PlainState}
 use Rattle.plain_disk.specs.Stops.{stopping_after_calls}
+use Rattle.plain_disk.proofs.OpeningLemmas.{stops_keep_opening}
+use Rattle.plain_disk.proofs.MarkedLemmas.{stops_seal}
 use Rattle.refine_log.specs.Fuses.{fuse_in}
 use Rattle.refine_log.specs.Pending.{ShowsPending}
 use Rattle.refine_log.proofs.Asked.{pending_count}
@@ -23,7 +25,8 @@ use Rattle.vol_core.specs.Volume.{VolumeState, SteppedVolume, with_budget_of}
 use Rattle.vol_core.specs.Shows.{Shows}
 use Rattle.vol_core.specs.Step.{passing, HasBytesOf}
 use Rattle.vol_core.specs.Stops.{HasOwnCommits}
-use Rattle.replay_rig.specs.Rig.{RigState, rig_of, script_uuid, owner_at, expected_of_plain, HasBytesOfObject, ShowsPlain}
+use Rattle.replay_rig.specs.Rig.{RigState, rig_of, script_uuid, owner_at, expected_of_plain, HasBytesOfObject, IsKeptObject}
+use Rattle.replay_rig.specs.Rig.{ShowsPlain}
 use Rattle.replay_rig.proofs.Stepped.{all_puts}
 use Rattle.replay_rig.proofs.WindowLemmas.{under_way_numbers}
 
@@ -71,15 +74,18 @@ set_fuse fuse (Some budget) new told is = (ap fuse_in is, ap is_some is)
 object_with_cache : (volume : Expected) (plain : PlainState) (cache : PlainCache) (number : ℕ) (bytes : List ℕ)
     → IsObjectOf volume plain number bytes
     → IsObjectOf volume (record plain { cache = cache }) number bytes
-object_with_cache volume plain cache number bytes is = record {
-  past = is.past;
-  header = is.header;
-  object = is.object;
-  rows = is.rows;
-  payload = is.payload;
-  parts = is.parts;
-  changes = is.changes;
-}
+object_with_cache volume plain cache number bytes (inl is) =
+    inl (record { first = is.first; rows = is.rows; is_checkpoint = is.is_checkpoint; says = is.says })
+object_with_cache volume plain cache number bytes (inr is) =
+    inr (record { past = is.past; object = is.object; there = is.there; rows = is.rows; holds = is.holds })
+
+kept_with_cache : (plain : PlainState) (cache : PlainCache) (number : ℕ) → IsKeptObject plain number
+    → IsKeptObject (record plain { cache = cache }) number
+kept_with_cache plain cache number is = record { some = is.some; acknowledged = is.acknowledged; kept = is.kept }
+
+kept_before : (plain : PlainState) (cache : PlainCache) (number : ℕ) → IsKeptObject (record plain { cache = cache }) number
+    → IsKeptObject plain number
+kept_before plain cache number is = record { some = is.some; acknowledged = is.acknowledged; kept = is.kept }
 
 pub stopping_rig : (calls : ℕ) (old : RigState) (volume : SteppedVolume) (plain : PlainState) → ShowsPlain old plain
     → plain.cache.left ≡ None
@@ -109,25 +115,20 @@ stopping_rig calls old volume plain h none rest shows budget =
       described = h.described;
       begun = omega (arith, h.begun);
       uuid_is = subst (λ (v : VolumeState). v.objects.uploads.uuid ≡ script_uuid) (sym is) h.uuid_is;
-      opens = record {
-        number = h.opens.number;
-        end = h.opens.end;
-        checkpoint = h.opens.checkpoint;
-        opening = h.opens.opening;
-        owned = h.opens.owned;
-      };
+      opens = stops_keep_opening plain calls h.opens;
+      seals = stops_seal plain calls h.seals;
       stopping = refl;
       puts = h.puts;
       put_objects = all_puts (HasBytesOfObject plain) (HasBytesOfObject (record plain { cache = cache })) old.puts
           (λ put has. object_with_cache (expected_of_plain plain) plain cache put.number put.bytes has) h.put_objects;
       bytes = subst (λ v. AllByRecursion (λ put. HasBytesOf v put.number put.bytes) old.puts) (sym is) h.bytes;
       stored = record {
-        first = h.stored.first;
-        acknowledged = λ number past a.
-            let had = h.stored.acknowledged number past a in
+        there = λ number is.
+            let had = h.stored.there number (kept_before plain cache number is) in
             (had.0, had.1, object_with_cache (expected_of_plain plain) plain cache number had.0 had.2);
-        none_else = h.stored.none_else;
+        none_else = λ number not_. h.stored.none_else number (λ is. not_ (kept_with_cache plain cache number is));
       };
+      removes = record { none_out = h.removes.none_out; gone = h.removes.gone };
       young = record {
         entries = omega (arith, h.young.entries);
         objects = omega (arith, h.young.objects);

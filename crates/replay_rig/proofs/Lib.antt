@@ -9,6 +9,7 @@ mod PutLemmas
 mod Putting
 mod Reading
 mod Refused
+mod Removing
 mod Rooms
 mod Says
 mod Standing

@@ -1,9 +1,8 @@
 -- The rig of a volume that was stopped and mounted again.
-use Rattle.std.proofs.Common.{◌≡◌, ℕ, ◌+◌, ◌*◌, ◌-◌, ◌%◌, ◌^◌, ◌<◌, ◌≤◌, max, true, false, List, [], ◌∷◌, length, map, refl, sym}
-use Rattle.std.proofs.Common.{◌∙◌, ap}
-use Rattle.std.proofs.Common.{subst, inl, inr, arith}
+use Rattle.std.proofs.Common.{◌≡◌, ℕ, ◌+◌, ◌*◌, ◌-◌, ◌%◌, ◌^◌, ◌<◌, ◌≤◌, max, Bool, true, false, List, [], ◌∷◌, length, map, refl}
+use Rattle.std.proofs.Common.{sym, ◌∙◌, ap, subst, inl, inr, arith}
 use Rattle.std.specs.Prelude.{Option, Some, None, is_some, IsTrue}
-use Rattle.std.specs.List.{AllByRecursion}
+use Rattle.std.specs.List.{AllByRecursion, list_any}
 use Rattle.std.specs.Option.{option_map}
 use Rattle.std.proofs.lemmas.Bool.{cases_lt}
 use Rattle.std.proofs.lemmas.List.{length-take}
@@ -23,29 +22,44 @@ use Rattle.cache_log.specs.declared.row.Row.{Row}
 use Rattle.cache_log.specs.Log.{LogState}
 use Rattle.cache_log.specs.Opening.{AreRecordsInRange}
 use Rattle.cache_log.specs.Committed.{IsOnDisk}
-use Rattle.stopped_volume.specs.Objects.{landed_in}
-use Rattle.stopped_volume.specs.Opening.{IsCheckpointOf}
+use Rattle.stopped_volume.specs.Store.{PutState}
+use Rattle.stopped_volume.specs.Store.PutState.{Acknowledged}
+use Rattle.object_uploads.specs.State.{UploadsState}
 use Rattle.stopped_volume.specs.Super.{HasVolume}
-use Rattle.upload_window.specs.Window.{IsAcknowledged}
+use Rattle.upload_window.specs.Window.{has_number}
 use Rattle.plain_disk.specs.declared.log.PlainCommit.{PlainCommit}
-use Rattle.plain_disk.specs.Log.{PlainLog, mounted_log, empty_from}
-use Rattle.plain_disk.specs.Cache.{is_kept, cache_with, kept_commit}
-use Rattle.plain_disk.specs.State.{PlainState, stream_in, history_length, frontier_end}
-use Rattle.plain_disk.specs.Stops.{cut_to_count, mounted_kept, mounted_lost}
-use Rattle.plain_disk.proofs.EndLemmas.{ends_within}
-use Rattle.plain_disk.proofs.StopLemmas.{kept_is_later, recovers_frontier, recovers_sealed}
+use Rattle.plain_disk.specs.Cache.{is_kept, kept_commit}
+use Rattle.plain_disk.specs.State.{PlainState, OpensBlank, stream_in, history_length, frontier_of, frontier_end, folded_to}
+use Rattle.plain_disk.specs.Checkpoints.{landed_checkpoint}
+use Rattle.plain_disk.specs.Removals.{has}
+use Rattle.plain_disk.specs.Found.{SealsCheckpoints, found_in}
+use Rattle.plain_disk.specs.Valid.{IsPlainVolume}
+use Rattle.plain_disk.specs.Stops.{recovered_number, recovered_end, kept_count, mounted_from, mounted_on, mounted_kept}
+use Rattle.plain_disk.specs.Stops.{mounted_lost}
+use Rattle.plain_disk.proofs.CheckpointLemmas.{newest_holds}
+use Rattle.plain_disk.proofs.FoldLemmas.{MayFold, count_of_fold}
+use Rattle.plain_disk.proofs.FoundLemmas.{loses_on_same_log, mounts_from_keep}
+use Rattle.plain_disk.proofs.OpeningLemmas.{mounts_keep_opening}
+use Rattle.plain_disk.proofs.MarkedLemmas.{mounts_seal}
+use Rattle.plain_disk.proofs.StopLemmas.{kept_is_later, recovers_base, recovers_within}
 use Rattle.refine_log.specs.Shows.{commit_of}
 use Rattle.refine_log.proofs.PendingShown.{synced_shows_pending}
 use Rattle.refine_log.specs.Stops.{HasCommit}
 use Rattle.refine_mount.specs.Mounted.{end_of_object, mounted_with, mounted_without}
-use Rattle.refine_mount.proofs.RestLemmas.{mounts_by_number}
+use Rattle.refine_mount.proofs.AsFoundLemmas.{mounts_as_found, found_has_commit}
 use Rattle.refine_mount.proofs.LeftLemmas.{fates_keep_commit}
-use Rattle.refine_store.specs.Puts.{IsObjectOf}
-use Rattle.refine_store.proofs.KeepLemmas.{mounts_keep_object}
+use Rattle.refine_store.specs.Puts.{IsObjectOf, state_of_put, AreBytesOfPut}
+use Rattle.refine_store.specs.Stored.{StoreStands, HasVolumeUpTo}
+use Rattle.refine_store.proofs.StandLemmas.{mounted_stands}
+use Rattle.refine_log.specs.Fuses.{fuse_in}
 use Rattle.vol_core.specs.Shows.{Shows}
 use Rattle.vol_core.specs.Step.{passing}
-use Rattle.vol_mount.specs.Mounted.{MountedState, disk_of, IsMountOf, NumbersNextCommit}
+use Rattle.vol_mount.specs.Mounted.{MountedState, disk_of, NumbersNextCommit}
 use Rattle.vol_recover.specs.Describing.{OfVolume}
+use Rattle.vol_recover.specs.Standing.{MayMountWith, MayMountWithout}
+use Rattle.vol_recover.proofs.MadeLemmas.{with_cache_shows, without_shows}
+use Rattle.vol_recover.proofs.StandLemmas.{KeepsUpTo, keeps_up_to}
+use Rattle.vol_recover.proofs.StopLemmas.{found_is_stored}
 use Rattle.vol_mount.specs.Mounting.{IsStored, IsLeft, MountsStored, MountsLeft}
 use Rattle.refusals.specs.declared.refusal.Refusal.TheVariants.{Worn}
 use Rattle.vol_mount.specs.declared.error.MountError.TheVariants.{Refused}
@@ -56,29 +70,24 @@ use Rattle.replay_rig.specs.declared.answer.Answer.TheVariants.{Mounted}
 use Rattle.replay_rig.specs.Steps.{IsMountTold}
 use Rattle.replay_rig.specs.Crash.{IsLeftBy, MayMountStored, MayMountLeft, RemovesNumbers, IsMountedVolume}
 use Rattle.replay_rig.specs.Puts.{PutView}
-use Rattle.replay_rig.specs.Rig.{RigState, rig_of, script_uuid, owner_at, expected_of_plain, ShowsPlain, Lands}
+use Rattle.replay_rig.specs.Rig.{RigState, rig_of, script_uuid, owner_at, expected_of_plain, AreUnderWay, IsKeptObject}
+use Rattle.replay_rig.specs.Rig.{HasStored, ShowsPlain, Lands}
 use Rattle.replay_rig.proofs.CrashLemmas.{left_is_synced}
-use Rattle.replay_rig.proofs.Crashing.{left_object, none_past, none_first, checkpoint_stays}
-use Rattle.replay_rig.proofs.Crashing.{recovered_same}
+use Rattle.replay_rig.proofs.Crashing.{done_state, none_past, recovered_same, kept_same, lost_same}
 use Rattle.replay_rig.proofs.Opening.{fuse_told}
 use Rattle.replay_rig.proofs.Describing.{lands_keep_volume}
-use Rattle.replay_rig.proofs.Standing.{rig_stops, ends_past, number_left, has_left, left_within}
+use Rattle.replay_rig.proofs.Standing.{rig_stops, ends_past, landed_left, number_left, up_to, finds, counts, has_left}
+use Rattle.replay_rig.proofs.Standing.{left_from}
 
 -- ---- what may be mounted
 
 pub stored_left : (rig : RigState) (plain : PlainState) (letters : List ℕ) (new : Objects) → ShowsPlain rig plain
     → Lands rig.puts letters rig.objects new → rig.lines < 2 ^ 40
-    → IsStored script_uuid plain.geometry plain (number_left new plain) (Some new)
+    → IsStored script_uuid plain.geometry (found_in (landed_left new plain) plain) (number_left new plain) (Some new)
 stored_left rig plain letters new h lands few =
-    let most = h.young.objects in
-    let within = left_within plain new h.shows.valid in
-    record {
-      valid = h.shows.valid;
-      sizes = refl;
-      limits = h.shows.valid.limits;
-      low = omega (arith, within, most, few);
-      objects_are = (has_left rig plain letters new h lands).0;
-    }
+    found_is_stored script_uuid plain.geometry.log h.epoch plain (landed_left new plain) new h.shows.valid
+    (up_to rig plain letters new h lands) h.shows.valid.limits
+    (omega (arith, (counts rig plain letters new h lands).sealed, h.young.objects, few))
 
 -- ---- the numbers of what is left
 
@@ -101,19 +110,19 @@ low_left : (rig : RigState) (plain : PlainState) (letters : List ℕ) (new : Obj
     → Lands rig.puts letters rig.objects new → rig.lines < 2 ^ 40 → IsExtent script_uuid plain.geometry new greatest end
     → AreLowLeft greatest end
 low_left rig plain letters new greatest end h lands few extent =
-    let has = (has_left rig plain letters new h lands).0 in
+    let has = has_left rig plain letters new h lands in
+    let there : PlainState = found_in (landed_left new plain) plain in
     let most = h.young.objects in
     let low : greatest < 2 ^ 60 = elim (cases_lt plain.window.last greatest) [
       | inl late ↦ absurd (some_is (found new (numbered_name script_uuid greatest))
-          (none_past rig plain letters new greatest h lands late) extent.present)
+          (none_past rig plain letters new h lands greatest late) extent.present)
       | inr low ↦ omega (arith, low, most, few)
     ] in
-    let ends = extent.end_is low has.uuid_at (stream_in plain) plain.opening (number_left new plain) has.stored in
-    let last = h.shows.valid.last in
-    let most_left = left_within plain new h.shows.valid in
-    let within = ends_within plain (number_left new plain) h.shows.valid (omega (arith, most_left, last)) in
+    let ends = extent.end_is low has.uuid_at (stream_in there) there.opening (number_left new plain) has.stored in
+    let same = (counts rig plain letters new h lands).end in
+    let within = recovers_within plain (landed_left new plain) h.shows.valid in
     let entries = h.young.entries in
-    record { of_greatest = low; of_end = omega (arith, ends, within, entries, few) }
+    record { of_greatest = low; of_end = omega (arith, ends, same, within, entries, few) }
 
 low_epoch : (rig : RigState) (plain : PlainState) → (h : ShowsPlain rig plain) → rig.lines < 2 ^ 40 → h.epoch < 2 ^ 60
 low_epoch rig plain h few = (let begun = h.begun in omega (arith, begun, few))
@@ -126,7 +135,7 @@ described_left rig plain letters new h lands =
 pub may_mount_stored : (rig : RigState) (plain : PlainState) (letters : List ℕ) (new : Objects) → ShowsPlain rig plain
     → Lands rig.puts letters rig.objects new → rig.lines < 2 ^ 40 → MayMountStored plain.geometry new
 may_mount_stored rig plain letters new h lands few = record {
-  plain = plain;
+  plain = found_in (landed_left new plain) plain;
   number = number_left new plain;
   epoch = h.epoch;
   described = described_left rig plain letters new h lands;
@@ -169,25 +178,46 @@ module _ (rig : RigState) (plain : PlainState) (fates : List Fate) (letters : Li
       × (has.number ≤ rig.volume.volume.log.commits.number + 1)
   has_commit =
       let valid = h.shows.valid in
-      let landed : Numbers = landed_in new (expected_of_plain plain) in
-      let may = (has_left rig plain letters new h lands).1 in
-      let sealed = recovers_sealed plain landed valid in
-      let last = valid.last in
-      let ends = ends_past plain (number_left new plain) valid (recovers_frontier plain landed valid may)
-      (omega (arith, sealed, last)) in
+      let ends = ends_past plain (number_left new plain) valid (left_from rig plain letters new h lands)
+      (counts rig plain letters new h lands).sealed in
       fates_keep_commit (owner_at h.epoch) h.shows.data_at rig.volume.volume.log plain fates end_left
       (rig_stops rig plain h on_disk) h.pending count
       is.may_leave ends.0 ends.1
 
-  pub is_left : rig.lines < 2 ^ 40 → IsLeft (owner_at h.epoch) plain.geometry plain commit_left (number_left new plain)
+  -- so does what a mount finds
+  found_commit : HasCommit (owner_at h.epoch) (found_in (landed_left new plain) plain) commit_left
+      (end_of_object (number_left new plain) (found_in (landed_left new plain) plain)) bytes_left
+  found_commit =
+      let has = up_to rig plain letters new h lands in
+      subst (λ end. HasCommit (owner_at h.epoch) (found_in (landed_left new plain) plain) commit_left end bytes_left)
+      (sym (counts rig plain letters new h lands).end)
+      (found_has_commit (owner_at h.epoch) plain (landed_left new plain) commit_left end_left bytes_left h.shows.valid has.may
+      (finds rig plain letters new h lands).opened (omega arith) has_commit.0)
+
+  pub is_left : rig.lines < 2 ^ 40
+      → IsLeft (owner_at h.epoch) plain.geometry (found_in (landed_left new plain) plain) commit_left (number_left new plain)
       (Some new) left
   is_left few = record {
     stored = stored_left rig plain letters new h lands few;
     log_is = refl;
     device =
-        subst (HasNow (λ now. HasCommit (owner_at h.epoch) plain commit_left end_left now.bytes)) (sym is.stopped.moments)
-        has_commit.0;
+        subst
+        (HasNow (λ now. HasCommit (owner_at h.epoch) (found_in (landed_left new plain) plain) commit_left
+        (end_of_object (number_left new plain) (found_in (landed_left new plain) plain)) now.bytes))
+        (sym is.stopped.moments) found_commit;
   }
+
+  -- the device and the store may be mounted with each other
+  pub may_with : rig.lines < 2 ^ 40 → MayMountWith (owner_at h.epoch) plain commit_left (landed_left new plain) new left
+  may_with few =
+      let later = kept_is_later (frontier_end plain) (history_length plain) (map is_kept fates) plain.cache h.shows.valid.log in
+      record {
+        valid = h.shows.valid;
+        commit = later.within;
+        later = later.tail;
+        left = is_left few;
+        volume = up_to rig plain letters new h lands;
+      }
 
   -- the device reads as that commit alone
   pub reads_left : (P : ℕ → CommitBody → Type 0) → P has_commit.0.number has_commit.0.body
@@ -235,7 +265,7 @@ module _ (rig : RigState) (plain : PlainState) (fates : List Fate) (letters : Li
   may_mount_left few sizes = record {
     log = sizes.0;
     size = sizes.1;
-    plain = plain;
+    plain = found_in (landed_left new plain) plain;
     found = commit_left;
     number = number_left new plain;
     epoch = h.epoch;
@@ -259,10 +289,6 @@ module _ (rig : RigState) (plain : PlainState) (fates : List Fate) (letters : Li
 
 -- ---- what was mounted
 
--- the plain volume with its first N entries and its objects up to a number, and a log
-abbrev pub mounted_as : (number count : ℕ) → PlainLog → PlainState → PlainState
-mounted_as number count log plain = record (cut_to_count number count plain) { cache = cache_with log }
-
 has_budget : (budget : Option Budget) (fuse : Fuse) → fuse_of budget ≡ Some fuse → IsTrue (is_some budget)
 has_budget None fuse is = cc
 has_budget (Some budget) fuse is = refl
@@ -271,123 +297,135 @@ none_of : (body : Option CommitBody) → option_map commit_of body ≡ None → 
 none_of None is = refl
 none_of (Some body) is = cc
 
-some_bytes : (held : Option (List ℕ)) → is_some held ≡ true → (bytes : List ℕ) × (held ≡ Some bytes)
-some_bytes None is = absurd cc
-some_bytes (Some bytes) is = (bytes, refl)
+-- The plain volume that a mount made of another one is at rest: no object of it is on its way, and none of its removals.
+pub record IsRestingOf (plain made : PlainState) : Type 0 where
+  pub geometry : made.geometry ≡ plain.geometry
+  pub entries : history_length made ≤ history_length plain
+  pub last : made.window.last ≤ plain.window.last
+  pub objects : made.window.objects ≡ []
+  pub gone : made.given_out ≡ made.removed
+  pub none_out : made.removal ≡ None
+  pub opens : OpensBlank made
+  pub seals : SealsCheckpoints made
+  pub told : made.cache.left ≡ None
+  pub pending : made.cache.pending ≡ []
+  pub finished : made.cache.log.unfinished ≡ None
 
-module _ (rig : RigState) (plain : PlainState) (letters : List ℕ) (new after : Objects) (mounted : MountedState) (count : ℕ)
-    (log : PlainLog)
-    (h : ShowsPlain rig plain) (lands : Lands rig.puts letters rig.objects new) (few : rig.lines < 2 ^ 40)
-    (epoch : ℕ) (begun : epoch ≤ rig.lines + 1) (was : IsMountedVolume plain.geometry epoch new mounted after)
-    (is : IsMountOf (mounted_as (number_left new plain) count log plain) (number_left new plain) mounted)
-    (finished : log.unfinished ≡ None)
-    (keeps : (n : ℕ) (bytes : List ℕ) → n ≤ number_left new plain → IsObjectOf (expected_of_plain plain) plain n bytes
-    → IsObjectOf (expected_of_plain plain) (mounted_as (number_left new plain) count log plain) n bytes)
-    (next : mounted.volume.volume.log.commits.number ≤ 4 * (rig.lines + 1)) where
-  abbrev number : ℕ
-  number = number_left new plain
+-- a store that stands for such a volume has its objects that were not removed
+module _ (epoch : ℕ) (made : PlainState) (uploads : UploadsState) (objects : Objects) (none : made.window.objects ≡ [])
+    (gone : made.given_out ≡ made.removed) (stands : StoreStands script_uuid epoch made uploads objects) where
+  no_open : (n : ℕ) → list_any (has_number n) made.window.objects ≡ false
+  no_open n = ap (list_any (has_number n)) none
 
-  abbrev made : PlainState
-  made = mounted_as number count log plain
-
-  removed : RemovesNumbers number new after
-  removed = subst (λ n. RemovesNumbers n new after) is.number_is was.removed
-
-  shown : Shows mounted.volume.volume made
-  shown = subst (λ f. Shows mounted.volume.volume (passing f made)) (fuse_told (disk_of mounted).budget None was.fuse) is.shows
-
-  -- the objects are recovered from the first on, and up to the last at most
-  first_low : 1 ≤ number
-  first_low =
-      let valid = h.shows.valid in
-      let may = (has_left rig plain letters new h lands).1 in
-      let from = recovers_frontier plain (landed_in new (expected_of_plain plain)) valid may in
-      let opened = valid.opened in
-      let first = h.opens.number in
-      omega (arith, from, opened, first)
-
-  last_high : number ≤ plain.window.last
-  last_high = left_within plain new h.shows.valid
-
-  -- ---- the store
-
-  first_stays : IsCheckpointOf (expected_of_plain made) after 1 0 (λ k. None)
-  first_stays =
-      let first = checkpoint_stays rig plain letters new h lands in
-      record {
-        bytes = first.bytes;
-        present = removed.stay 1 first_low ∙ first.present;
-        rows = first.rows;
-        is_checkpoint = first.is_checkpoint;
-        says = first.says;
-      }
-
-  recovered_there : (n : ℕ) → 1 < n → n ≤ number
-      → (bytes : List ℕ) × (found after (numbered_name script_uuid n) ≡ Some bytes)
+  kept_there : (n : ℕ) → IsKeptObject made n
+      → (bytes : List ℕ) × (found objects (numbered_name script_uuid n) ≡ Some bytes)
       × IsObjectOf (expected_of_plain made) made n bytes
-  recovered_there n past low =
-      let stream = (has_left rig plain letters new h lands).0.stored.stored in
-      let base = stream.base in
-      let first = h.opens.number in
-      let there = stream.missing.least n (omega (arith, base, first, past)) (omega (arith, low)) in
-      let had = some_bytes (found new (numbered_name script_uuid n)) there in
-      (had.0, removed.stay n low ∙ had.1, keeps n had.0 low (left_object rig plain letters new n had.0 h lands past had.1))
+  kept_there n is =
+      let known = stands.are.known n is.some is.acknowledged.was_entered is.kept in
+      let rests : state_of_put made n ≡ Acknowledged =
+      done_state made n is.acknowledged.not_open (ap (λ numbers. has numbers n) gone ∙ is.kept) in
+      let there : stands.puts n ≡ Some (Acknowledged, known.0) =
+      known.1 ∙ ap (λ (state : PutState). Some (state, known.0)) rests in (
+        known.0,
+        stands.left.held.puts_are n Acknowledged known.0 there,
+        subst (λ state. AreBytesOfPut state (expected_of_plain made) made n known.0) rests known.2,
+      )
 
-  none_there : (n : ℕ) → (0 < n → IsAcknowledged made.window n → ⊥) → found after (numbered_name script_uuid n) ≡ None
-  none_there n not_ = elim (cases_lt plain.window.last n) [
-    | inl late ↦ removed.none n (none_past rig plain letters new n h lands late)
-    | inr low ↦ elim (cases_lt number n) [
-      | inl past ↦ (let most = h.young.objects in removed.gone n past (omega (arith, low, most, few)))
-      | inr within ↦ elim (cases_lt 0 n) [
-        | inl positive ↦ absurd (not_ positive (record { was_entered = within; not_open = refl }))
-        | inr none ↦
-            let e : n ≡ 0 = omega (arith, none) in
-            removed.none n
-            (ap (λ k. found new (numbered_name script_uuid k)) e ∙ none_first rig plain letters new h lands)
-      ]
+  none_kept : (n : ℕ) (b : Bool) → has made.removed n ≡ b → (IsKeptObject made n → ⊥)
+      → found objects (numbered_name script_uuid n) ≡ None
+  none_kept n true is not_ = stands.left.held.none_else n (stands.are.removed n is)
+  none_kept n false is not_ = elim (cases_lt made.window.last n) [
+    | inl late ↦ stands.left.held.none_else n (stands.are.none_else n late)
+    | inr low ↦ elim (cases_lt 0 n) [
+      | inl some ↦
+          absurd (not_ (record {
+            some = some;
+            acknowledged = record { was_entered = omega (arith, low); not_open = no_open n };
+            kept = is;
+          }))
+      | inr zero_ ↦
+          let first : n ≡ 0 = omega (arith, zero_) in
+          ap (λ k. found objects (numbered_name script_uuid k)) first ∙ stands.left.held.none_else 0 stands.are.none_first
     ]
   ]
 
+  pub has_stored : HasStored made objects
+  has_stored = record { there = kept_there; none_else = λ n not_. none_kept n (has made.removed n) refl not_ }
+
+-- ---- the store after a mount
+
+module _ (rig : RigState) (plain : PlainState) (letters : List ℕ) (new after : Objects) (mounted : MountedState)
+    (h : ShowsPlain rig plain) (lands : Lands rig.puts letters rig.objects new) (few : rig.lines < 2 ^ 40)
+    (epoch : ℕ) (was : IsMountedVolume plain.geometry epoch new mounted after)
+    (number_is : mounted.number ≡ number_left new plain) where
+  removed : RemovesNumbers (number_left new plain) new after
+  removed = subst (λ n. RemovesNumbers n new after) number_is was.removed
+
+  none_left : (n : ℕ) → number_left new plain < n → found after (numbered_name script_uuid n) ≡ None
+  none_left n past = elim (cases_lt plain.window.last n) [
+    | inl late ↦ removed.none n (none_past rig plain letters new h lands n late)
+    | inr low ↦ removed.gone n past (omega (arith, low, h.young.objects, few))
+  ]
+
+  keeps : KeepsUpTo script_uuid (number_left new plain) new after
+  keeps = record {
+    same = λ n low. removed.stay n low;
+    later = λ n. elim (cases_lt (number_left new plain) n) [
+      | inl past ↦ inr (none_left n past)
+      | inr low ↦ inl (removed.stay n (omega (arith, low)))
+    ];
+  }
+
+  still_up_to : HasVolumeUpTo script_uuid epoch plain (landed_left new plain) after
+  still_up_to =
+      keeps_up_to script_uuid new after h.epoch epoch plain (landed_left new plain) keeps (up_to rig plain letters new h lands)
+      was.described
+
+  -- so it stands for what was made
+  pub mounts_stand : (found : PlainCommit)
+      → StoreStands script_uuid epoch (mounted_from (landed_left new plain) found plain) mounted.volume.volume.objects.uploads
+      after
+      × StoreStands script_uuid epoch (mounted_on plain.geometry.log (landed_left new plain) plain)
+      mounted.volume.volume.objects.uploads after
+  mounts_stand found =
+      mounted_stands script_uuid epoch plain (landed_left new plain) found plain.geometry.log
+      mounted.volume.volume.objects.uploads after h.shows.valid still_up_to none_left
+
   -- ---- the whole
 
-  pub mounted_rig : ShowsPlain (rig_of mounted.volume after [] false (rig.lines + 1)) made
-  mounted_rig =
-      let finished_too = none_of mounted.volume.volume.log.commits.unfinished (sym shown.log.unfinished ∙ finished) in
-      let entries = h.young.entries in
-      let most = h.young.objects in
-      let fewer = length-take (count - plain.end) plain.entries in
-      let steps = was.volume.steps in
+  pub mounted_rig : (made : PlainState) → IsRestingOf plain made → epoch ≤ rig.lines + 1
+      → Shows mounted.volume.volume (passing (fuse_in mounted.volume.volume.log.commits.disk.budget) made)
+      → StoreStands script_uuid epoch made mounted.volume.volume.objects.uploads after
+      → mounted.volume.volume.log.commits.number ≤ 4 * (rig.lines + 1)
+      → ShowsPlain (rig_of mounted.volume after [] false (rig.lines + 1)) made
+  mounted_rig made rests begun shows stands next =
+      let fuse : fuse_in (disk_of mounted).budget ≡ None = fuse_told (disk_of mounted).budget None was.fuse in
+      let shown : Shows mounted.volume.volume made =
+      subst (Shows mounted.volume.volume) (ap (λ f. passing f made) (fuse ∙ sym rests.told)) shows in
+      let finished = none_of mounted.volume.volume.log.commits.unfinished (sym shown.log.unfinished ∙ rests.finished) in
       record {
         shows = shown;
         pending =
             synced_shows_pending mounted.volume.volume.log made.cache (has_budget (disk_of mounted).budget None was.fuse) was.now
-            finished_too refl;
+            finished rests.pending;
         epoch = epoch;
         own = was.volume.own;
-        described = was.described;
+        described = subst (λ g. HasVolume script_uuid g epoch after) (sym rests.geometry) was.described;
         begun = begun;
         uuid_is = was.volume.uuid_is;
-        opens = record {
-          number = h.opens.number;
-          end = h.opens.end;
-          checkpoint = h.opens.checkpoint;
-          opening = h.opens.opening;
-          owned = h.opens.owned;
-        };
-        stopping = refl;
-        puts = refl;
+        opens = rests.opens;
+        seals = rests.seals;
+        stopping = ap is_some (sym rests.told);
+        puts = subst (λ objects. AreUnderWay objects []) (sym rests.objects) refl;
         put_objects = tt;
         bytes = tt;
-        stored = record {
-          first = first_stays;
-          acknowledged = λ n past ack. recovered_there n past ack.was_entered;
-          none_else = none_there;
-        };
+        stored = has_stored epoch made mounted.volume.volume.objects.uploads after rests.objects rests.gone stands;
+        removes = record { none_out = rests.none_out; gone = rests.gone };
         young = record {
-          entries = omega (arith, entries, fewer);
-          objects = omega (arith, last_high, most);
+          entries = omega (arith, rests.entries, h.young.entries);
+          objects = omega (arith, rests.last, h.young.objects);
           commits = next;
-          steps = omega (arith, steps);
+          steps = omega (arith, was.volume.steps);
         };
       }
 
@@ -409,19 +447,80 @@ MountsStoredOf log new mounted =
 -- the answer tells of a mount, and the rig shows what it made
 abbrev pub IsMountedRig : (rig : RigState) (letters : List ℕ) → PlainState → (made : PlainState) → MountedState → Objects → Type 0
 IsMountedRig rig letters plain made mounted after =
-    IsMountTold (landed_by plain.window letters) plain made (Mounted mounted.entries mounted.number)
+    IsMountTold (landed_by plain letters) plain made (Mounted mounted.entries mounted.number)
     × ShowsPlain (rig_of mounted.volume after [] false (rig.lines + 1)) made
 
--- of a plain volume with its objects up to the number that the letters give
-abbrev IsMadeBy : (rig : RigState) (made : ℕ → PlainState) → MountedState → Objects → ℕ → Type 0
-IsMadeBy rig made mounted after number =
-    (Mounted mounted.entries mounted.number ≡ Mounted (history_length (made number)) number)
-    × ShowsPlain (rig_of mounted.volume after [] false (rig.lines + 1)) (made number)
+told_mount : (mounted : MountedState) (entries to other : ℕ) → mounted.entries ≡ entries → mounted.number ≡ to → to ≡ other
+    → Mounted mounted.entries mounted.number ≡ Mounted entries other
+told_mount mounted entries to other entries_are is same = ap (λ n. Mounted n mounted.number) entries_are
+    ∙ ap (λ n. Mounted entries n) (is ∙ same)
 
-told_mount : (mounted : MountedState) (made : PlainState) (to : ℕ) → IsMountOf made to mounted
-    → Mounted mounted.entries mounted.number ≡ Mounted (history_length made) to
-told_mount mounted made to is = ap (λ n. Mounted n mounted.number) is.entries
-    ∙ ap (λ n. Mounted (history_length made) n) is.number_is
+-- a mount has as many entries as what it makes of the volume that it finds
+module _ (rig : RigState) (plain : PlainState) (letters : List ℕ) (new : Objects) (h : ShowsPlain rig plain)
+    (lands : Lands rig.puts letters rig.objects new) where
+  abbrev landed : Numbers
+  landed = landed_left new plain
+
+  -- what is made folds to the newest checkpoint that has landed
+  may_fold : (made : PlainState) → IsPlainVolume made → made.number ≡ plain.number → frontier_of made ≡ number_left new plain
+      → MayFold made (landed_checkpoint landed plain).number
+  may_fold made valid opened frontier = record {
+    valid = valid;
+    from =
+        omega (arith, opened, (finds rig plain letters new h lands).opened, (newest_holds plain landed h.shows.valid).0);
+    to = omega (arith, frontier, recovers_base plain landed);
+  }
+
+  same_entries : (made as_found : PlainState) → IsPlainVolume made → made.number ≡ plain.number
+      → frontier_of made ≡ number_left new plain → folded_to (landed_checkpoint landed plain).number made ≡ as_found
+      → history_length as_found ≡ history_length made
+  same_entries made as_found valid opened frontier same =
+      ap history_length (sym same)
+      ∙ count_of_fold made (landed_checkpoint landed plain).number (may_fold made valid opened frontier)
+
+  as_found_is : (found : PlainCommit)
+      → (folded_to (landed_checkpoint landed plain).number (mounted_from landed found plain)
+      ≡ mounted_with found (number_left new plain) (found_in landed plain))
+      × (folded_to (landed_checkpoint landed plain).number (mounted_on plain.geometry.log landed plain)
+      ≡ mounted_without plain.geometry.log (number_left new plain) (found_in landed plain))
+  as_found_is found =
+      mounts_as_found plain landed found plain.geometry.log h.shows.valid (up_to rig plain letters new h lands).may
+      (finds rig plain letters new h lands).opened
+
+  rests_kept : (found : PlainCommit) → IsRestingOf plain (mounted_from landed found plain)
+  rests_kept found = record {
+    geometry = refl;
+    entries = omega (arith, length-take (kept_count landed found plain - plain.end) plain.entries);
+    last = (counts rig plain letters new h lands).sealed;
+    objects = refl;
+    gone = refl;
+    none_out = refl;
+    opens = (mounts_keep_opening plain landed found plain.geometry.log h.opens).0;
+    seals = (mounts_seal plain landed found plain.geometry.log h.shows.valid h.seals).0;
+    told = refl;
+    pending = refl;
+    finished = refl;
+  }
+
+  loses : mounted_lost landed plain ≡ mounted_on plain.geometry.log landed plain
+  loses = loses_on_same_log plain landed h.shows.valid.size
+
+  rests_lost : IsRestingOf plain (mounted_lost landed plain)
+  rests_lost =
+      let found : PlainCommit = plain.cache.log.last in
+      record {
+        geometry = refl;
+        entries = omega (arith, length-take (recovered_end landed plain - plain.end) plain.entries);
+        last = (counts rig plain letters new h lands).sealed;
+        objects = refl;
+        gone = refl;
+        none_out = refl;
+        opens = subst OpensBlank (sym loses) (mounts_keep_opening plain landed found plain.geometry.log h.opens).1;
+        seals = subst SealsCheckpoints (sym loses) (mounts_seal plain landed found plain.geometry.log h.shows.valid h.seals).1;
+        told = refl;
+        pending = refl;
+        finished = refl;
+      }
 
 pub kept_rig : (rig : RigState) (plain : PlainState) (fates : List Fate) (letters : List ℕ) (new after : Objects)
     (left : DiskState)
@@ -430,52 +529,71 @@ pub kept_rig : (rig : RigState) (plain : PlainState) (fates : List Fate) (letter
     → IsLeftBy fates rig.volume.volume.log.commits.disk left → length fates ≡ length plain.cache.pending → rig.lines < 2 ^ 40
     → plain.geometry.log ≡ log_of left.size → MountedAs (log_of left.size) (λ epoch. epoch) new mounted after
     → MountsLeftOf (log_of left.size) new left mounted → NumbersNextCommit (log_of left.size) left mounted
-    → IsMountedRig rig letters plain (mounted_kept (landed_by plain.window letters) (map is_kept fates) plain) mounted after
+    → IsMountedRig rig letters plain (mounted_kept (landed_by plain letters) (map is_kept fates) plain) mounted after
 kept_rig rig plain fates letters new after left mounted h on_disk lands is_left_by count few log was mounts numbers =
     let commit : PlainCommit = kept_commit (map is_kept fates) plain.cache in
     let number : ℕ = number_left new plain in
-    let end : ℕ = end_of_object number plain in
+    let there : Numbers = landed_left new plain in
+    let made : PlainState = mounted_from there commit plain in
     let described = described_left rig plain letters new h lands in
-    let is = mounts plain.geometry h.epoch log described plain commit number
-    (is_left rig plain fates letters new left h on_disk lands is_left_by count few) in
-    let begun = h.begun in
+    let may = may_with rig plain fates letters new left h on_disk lands is_left_by count few in
+    let volume = was plain.geometry h.epoch log described in
+    let is = mounts plain.geometry h.epoch log described (found_in there plain) commit number may.left in
     let shows =
-    mounted_rig rig plain letters new after mounted (max end commit.head.seq) (mounted_log commit end plain.cache.log) h lands
-    few h.epoch
-    (omega (arith, begun)) (was plain.geometry h.epoch log described) is refl
-    (λ n bytes low object. (mounts_keep_object (expected_of_plain plain) plain commit plain.geometry.log number n bytes
-    h.shows.valid low object).0)
+    with_cache_shows (owner_at h.epoch) plain commit there new left mounted may volume.volume is in
+    let stands = (mounts_stand rig plain letters new after mounted h lands few h.epoch volume is.number_is commit).0 in
+    let valid = (mounts_from_keep plain there h.shows.valid may.volume.may).0 commit may.commit may.later in
+    let entries = is.entries
+    ∙ same_entries rig plain letters new h lands made _ valid refl refl (as_found_is rig plain letters new h lands commit).0 in
+    let rig_shows =
+    mounted_rig rig plain letters new after mounted h lands few h.epoch volume is.number_is made
+    (rests_kept rig plain letters new h lands commit) (omega (arith, h.begun)) shows stands
     (next_number rig plain fates letters new left h on_disk lands is_left_by count mounted
     (subst (λ n. NumbersNextCommit n left mounted) (sym log) numbers)) in
-    let same = (mounts_by_number plain (landed_by plain.window letters) (map is_kept fates) h.shows.alone).0 in
-    subst (λ made. IsMountedRig rig letters plain made mounted after) (sym same)
-    (subst (IsMadeBy rig (λ n. mounted_with commit n plain) mounted after) (recovered_same rig plain letters new h lands)
-    (told_mount mounted (mounted_with commit number plain) number is, shows))
+    subst (λ made. IsMountedRig rig letters plain made mounted after) (kept_same rig plain letters new h lands commit) (
+      told_mount mounted (history_length made) number (recovered_number (landed_by plain letters) plain) entries is.number_is
+          (recovered_same rig plain letters new h lands),
+      rig_shows,
+    )
 
 pub lost_rig : (rig : RigState) (plain : PlainState) (letters : List ℕ) (new after : Objects) (mounted : MountedState)
     (sectors : ℕ)
     → ShowsPlain rig plain → Lands rig.puts letters rig.objects new → rig.lines < 2 ^ 40
     → plain.geometry.log ≡ sectors → MountedAs sectors (λ epoch. epoch + 1) new mounted after → MountsStoredOf sectors new mounted
     → mounted.volume.volume.log.commits.number ≡ 0
-    → IsMountedRig rig letters plain (mounted_lost (landed_by plain.window letters) plain) mounted after
+    → IsMountedRig rig letters plain (mounted_lost (landed_by plain letters) plain) mounted after
 lost_rig rig plain letters new after mounted sectors h lands few log was mounts numbers =
     let number : ℕ = number_left new plain in
     let size : ℕ = plain.geometry.log in
-    let end : ℕ = end_of_object number plain in
+    let there : Numbers = landed_left new plain in
+    let made : PlainState = mounted_lost there plain in
     let described = described_left rig plain letters new h lands in
-    let is = mounts plain.geometry h.epoch log described plain number (stored_left rig plain letters new h lands few) in
-    let begun = h.begun in
+    let stored = stored_left rig plain letters new h lands few in
+    let has = up_to rig plain letters new h lands in
+    let may : MayMountWithout script_uuid size h.epoch plain there new =
+    record { valid = h.shows.valid; stored = stored; volume = has } in
+    let volume = was plain.geometry h.epoch log described in
+    let is = mounts plain.geometry h.epoch log described (found_in there plain) number stored in
+    let same = loses rig plain letters new h lands in
+    let fuse = fuse_in mounted.volume.volume.log.commits.disk.budget in
     let shows =
-    mounted_rig rig plain letters new after mounted end (empty_from size end) h lands few (h.epoch + 1)
-    (omega (arith, begun))
-    (was plain.geometry h.epoch log described) is refl
-    (λ n bytes low object. (mounts_keep_object (expected_of_plain plain) plain plain.cache.log.last size number n bytes
-    h.shows.valid low object).1)
-    (omega (arith, numbers)) in
-    let same = (mounts_by_number plain (landed_by plain.window letters) [] h.shows.alone).1 h.shows.valid.size in
-    subst (λ made. IsMountedRig rig letters plain made mounted after) (sym same)
-    (subst (IsMadeBy rig (λ n. mounted_without size n plain) mounted after) (recovered_same rig plain letters new h lands)
-    (told_mount mounted (mounted_without size number plain) number is, shows))
+    subst (λ p. Shows mounted.volume.volume (passing fuse p)) (sym same)
+    (without_shows script_uuid size h.epoch plain there new mounted may volume.volume is) in
+    let stands =
+    subst (λ p. StoreStands script_uuid (h.epoch + 1) p mounted.volume.volume.objects.uploads after) (sym same)
+    (mounts_stand rig plain letters new after mounted h lands few (h.epoch + 1) volume is.number_is plain.cache.log.last).1 in
+    let valid = (mounts_from_keep plain there h.shows.valid has.may).1 size h.shows.valid.limits in
+    let entries = is.entries
+    ∙ same_entries rig plain letters new h lands (mounted_on size there plain) _ valid refl refl
+    (as_found_is rig plain letters new h lands plain.cache.log.last).1 in
+    let rig_shows =
+    mounted_rig rig plain letters new after mounted h lands few (h.epoch + 1) volume is.number_is made
+    (rests_lost rig plain letters new h lands) (omega (arith, h.begun)) shows stands (omega (arith, numbers)) in
+    subst (λ made. IsMountedRig rig letters plain made mounted after) (lost_same rig plain letters new h lands) (
+      told_mount mounted (history_length made) number (recovered_number (landed_by plain letters) plain)
+          (entries ∙ ap history_length (sym same)) is.number_is (recovered_same rig plain letters new h lands),
+      rig_shows,
+    )
 
 -- ---- a rig that was stopped
 
@@ -555,7 +673,7 @@ pub rig_again : (rig : RigState) (plain : PlainState) (fates : List Fate) (lette
     → ShowsPlain rig plain → WasStopped rig fates letters new left
     → MountedAs (log_of left.size) (λ epoch. epoch) new mounted after
     → MountsLeftOf (log_of left.size) new left mounted → NumbersNextCommit (log_of left.size) left mounted
-    → IsMountedRig rig letters plain (mounted_kept (landed_by plain.window letters) (map is_kept fates) plain) mounted after
+    → IsMountedRig rig letters plain (mounted_kept (landed_by plain letters) (map is_kept fates) plain) mounted after
 rig_again rig plain fates letters new after left mounted h was volume mounts numbers =
     kept_rig rig plain fates letters new after left mounted h was.on_disk was.lands was.left_by (was.count plain h) was.few
     (has_log rig plain fates left h was.on_disk was.left_by).0 volume mounts numbers
@@ -565,7 +683,7 @@ pub rig_anew : (rig : RigState) (plain : PlainState) (letters : List ℕ) (new a
     → ShowsPlain rig plain → WasLost rig letters new → plain.geometry.log ≡ sectors
     → MountedAs sectors (λ epoch. epoch + 1) new mounted after
     → MountsStoredOf sectors new mounted → mounted.volume.volume.log.commits.number ≡ 0
-    → IsMountedRig rig letters plain (mounted_lost (landed_by plain.window letters) plain) mounted after
+    → IsMountedRig rig letters plain (mounted_lost (landed_by plain letters) plain) mounted after
 rig_anew rig plain letters new after mounted sectors h was log volume mounts numbers =
     lost_rig rig plain letters new after mounted sectors h was.lands was.few log volume mounts numbers
 
@@ -573,7 +691,7 @@ pub told_by : (rig : RigState) (letters : List ℕ) (plain made : PlainState) (m
     (answer : Answer)
     (bench : RigState)
     → bench ≡ rig_of mounted.volume after [] false (rig.lines + 1) → answer ≡ Mounted mounted.entries mounted.number
-    → IsMountedRig rig letters plain made mounted after → IsMountTold (landed_by plain.window letters) plain made answer
+    → IsMountedRig rig letters plain made mounted after → IsMountTold (landed_by plain letters) plain made answer
     × ShowsPlain bench made
 told_by rig letters plain made mounted after answer bench is says made_is =
     (says ∙ made_is.0, subst (λ r. ShowsPlain r made) (sym is) made_is.1)

@@ -1,20 +1,33 @@
 -- The rig of a volume that was just created.
-use Rattle.std.proofs.Common.{◌≡◌, false, [], refl, subst, arith}
+use Rattle.std.proofs.Common.{◌≡◌, ℕ, false, List, [], refl, subst, inl, arith}
 use Rattle.std.specs.Prelude.{Option, Some, None}
 use Rattle.lsvd_base.specs.declared.geometry.Geometry.{Geometry}
 use Rattle.lsvd_device.specs.Calls.{Fuse, Budget, fuse_of}
-use Rattle.lsvd_objstore.specs.Objects.{Objects}
+use Rattle.lsvd_objstore.specs.Objects.{Objects, found}
+use Rattle.object_recovery.specs.Checkpoints.{expected_of}
+use Rattle.object_stream.specs.Replay.{object_name}
+use Rattle.stopped_volume.specs.Opening.{IsCheckpointOf}
 use Rattle.plain_disk.specs.State.{PlainState, created_volume}
+use Rattle.plain_disk.proofs.OpeningLemmas.{created_opens}
+use Rattle.plain_disk.proofs.MarkedLemmas.{created_seals}
 use Rattle.refine_log.specs.Fuses.{fuse_in}
+use Rattle.refine_store.specs.Puts.{IsObjectOf}
 use Rattle.vol_core.specs.Volume.{SteppedVolume}
 use Rattle.vol_core.specs.Shows.{Shows}
 use Rattle.vol_core.specs.Step.{passing}
 use Rattle.replay_rig.specs.Crash.{IsNewVolume}
-use Rattle.replay_rig.specs.Rig.{rig_of, ShowsPlain}
+use Rattle.replay_rig.specs.Rig.{rig_of, script_uuid, expected_of_plain, ShowsPlain}
 
 pub fuse_told : (budget : Option Budget) (fuse : Fuse) → fuse_of budget ≡ Some fuse → fuse_in budget ≡ fuse
 fuse_told None fuse is = cc
 fuse_told (Some budget) fuse is = cc
+
+-- the first object of a new volume is the one at which it opens
+opening_object : (geometry : Geometry) (objects : Objects)
+    → (first : IsCheckpointOf (expected_of script_uuid geometry) objects 1 0 (λ k. None))
+    → IsObjectOf (expected_of script_uuid geometry) (created_volume geometry) 1 first.bytes
+opening_object geometry objects first =
+    inl (record { first = refl; rows = first.rows; is_checkpoint = first.is_checkpoint; says = first.says })
 
 pub new_rig : (geometry : Geometry) (volume : SteppedVolume) (objects : Objects) → IsNewVolume geometry volume objects
     → ShowsPlain (rig_of volume objects [] false 0) (created_volume geometry)
@@ -29,17 +42,26 @@ new_rig geometry volume objects new =
       described = new.described;
       begun = omega arith;
       uuid_is = new.created.uuid_is;
-      opens = record { number = refl; end = refl; checkpoint = refl; opening = refl; owned = refl };
+      opens = created_opens geometry;
+      seals = created_seals geometry;
       stopping = refl;
       puts = refl;
       put_objects = tt;
       bytes = tt;
       stored = record {
-        first = new.first;
-        acknowledged = λ number past is. (let most = is.was_entered in absurd (omega (arith, past, most)));
+        there = λ number is.
+            let one : 1 ≡ number = omega (arith, is.some, is.acknowledged.was_entered) in
+            subst (λ n. (bytes : List ℕ) × (found objects (object_name (expected_of_plain plain) n) ≡ Some bytes)
+            × IsObjectOf (expected_of_plain plain) plain n bytes) one
+            (new.first.bytes, new.first.present, opening_object geometry objects new.first);
         none_else = λ number not_. new.none_else number
-            (λ one. not_ (omega (arith, one)) (record { was_entered = omega (arith, one); not_open = refl }));
+            (λ one. not_ (record {
+              some = omega (arith, one);
+              acknowledged = record { was_entered = omega (arith, one); not_open = refl };
+              kept = refl;
+            }));
       };
+      removes = record { none_out = refl; gone = refl };
       young = record {
         entries = omega arith;
         objects = omega arith;

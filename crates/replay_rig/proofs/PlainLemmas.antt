@@ -4,8 +4,6 @@ use Rattle.std.proofs.Common.{ap, arith, length-append}
 use Rattle.std.specs.Prelude.{Option, Some, None, is_some}
 use Rattle.lsvd_base.specs.declared.entry.Entry.{Entry}
 use Rattle.lsvd_base.specs.declared.entry.Entry.TheVariants as entries
-use Rattle.lsvd_base.specs.declared.geometry.Geometry.{Geometry}
-use Rattle.lsvd_base.specs.Image.{blank}
 use Rattle.lsvd_base.specs.Limits.{may_transfer}
 use Rattle.lsvd_device.specs.Calls.{Fuse, fuse_after}
 use Rattle.object_stream.specs.declared.object.Content.TheVariants.{Data, Checkpoint}
@@ -24,14 +22,12 @@ use Rattle.plain_disk.specs.Objects.{has_unsealed, is_busy, end_of_next, window_
 use Rattle.plain_disk.specs.Objects.{window_after_failed}
 use Rattle.plain_disk.specs.Reads.{look_calls, passes_look, objects_read, are_pinned, without_pins}
 use Rattle.plain_disk.specs.Checkpoints.{checkpoint_after_done}
-use Rattle.plain_disk.specs.First.{HasFirstCheckpointAlone}
 use Rattle.plain_disk.specs.Removals.{to_remove, with_removal, is_out}
 use Rattle.plain_disk.specs.State.{PlainState, PlainCheckpoint, stream_in, frontier_end}
 use Rattle.plain_disk.specs.Step.{plain_after}
 use Rattle.plain_disk.proofs.CommitLemmas.{either}
-use Rattle.plain_disk.proofs.FirstLemmas.{checkpoint_stays}
 use Rattle.refine_log.proofs.PlainCommits.{plain_commit_takes_calls}
-use Rattle.replay_rig.specs.Rig.{OpensBlank}
+use Rattle.replay_rig.specs.Rig.{RemovesAtOnce}
 
 -- ---- fuses
 
@@ -72,11 +68,7 @@ entering_told plain entry =
 -- was
 pub record GrowsByOne (old new : PlainState) : Type 0 where
   pub geometry : new.geometry ≡ old.geometry
-  pub opening : new.opening ≡ old.opening
-  pub number : new.number ≡ old.number
   pub end : new.end ≡ old.end
-  pub owned : new.owned ≡ old.owned
-  pub checkpoint : new.checkpoint ≡ old.checkpoint
   pub entries : length new.entries ≤ length old.entries + 1
   pub last : new.window.last ≤ old.window.last + 1
   pub told : is_some new.cache.left ≡ is_some old.cache.left
@@ -84,11 +76,7 @@ pub record GrowsByOne (old new : PlainState) : Type 0 where
 same_grows : (plain : PlainState) → GrowsByOne plain plain
 same_grows plain = record {
   geometry = refl;
-  opening = refl;
-  number = refl;
   end = refl;
-  owned = refl;
-  checkpoint = refl;
   entries = omega arith;
   last = omega arith;
   told = refl;
@@ -106,11 +94,7 @@ either_length false entry list = omega arith
 entering_grows : (plain : PlainState) (entry : Entry) → GrowsByOne plain (after_entering entry plain)
 entering_grows plain entry = record {
   geometry = refl;
-  opening = refl;
-  number = refl;
   end = refl;
-  owned = refl;
-  checkpoint = refl;
   entries = either_length (comes_to_log plain entry && passes_entry (cache_for plain entry) entry) entry plain.entries;
   last = omega arith;
   told = entering_told plain entry;
@@ -121,11 +105,7 @@ cache_grows : (plain : PlainState) (cache : PlainCache) (pins : List ℕ) → Is
     → GrowsByOne plain (record plain { cache = cache; pins = pins })
 cache_grows plain cache pins told = record {
   geometry = refl;
-  opening = refl;
-  number = refl;
   end = refl;
-  owned = refl;
-  checkpoint = refl;
   entries = omega arith;
   last = omega arith;
   told = told;
@@ -133,15 +113,11 @@ cache_grows plain cache pins told = record {
 
 -- other objects, and another window
 window_grows : (plain : PlainState) (objects : List StreamObject) (window : WindowState) (checkpoint : PlainCheckpoint)
-    → window.last ≤ plain.window.last + 1 → checkpoint ≡ plain.checkpoint
+    → window.last ≤ plain.window.last + 1
     → GrowsByOne plain (record plain { objects = objects; window = window; checkpoint = checkpoint })
-window_grows plain objects window checkpoint last same = record {
+window_grows plain objects window checkpoint last = record {
   geometry = refl;
-  opening = refl;
-  number = refl;
   end = refl;
-  owned = refl;
-  checkpoint = same;
   entries = omega arith;
   last = last;
   told = refl;
@@ -168,11 +144,7 @@ removal_grows : (plain : PlainState) (removed given_out : List ℕ) (removal : O
     → GrowsByOne plain (record plain { removed = removed; given_out = given_out; removal = removal })
 removal_grows plain removed given_out removal = record {
   geometry = refl;
-  opening = refl;
-  number = refl;
   end = refl;
-  owned = refl;
-  checkpoint = refl;
   entries = omega arith;
   last = omega arith;
   told = refl;
@@ -183,59 +155,109 @@ taking_grows plain None None = same_grows plain
 taking_grows plain None (Some number) = removal_grows plain plain.removed (plain.given_out ++ number ∷ []) (Some number)
 taking_grows plain (Some other) lowest = same_grows plain
 
-pub event_grows : (plain : PlainState) (event : PlainEvent) → HasFirstCheckpointAlone plain
-    → GrowsByOne plain (plain_after event plain)
-event_grows plain (Write lba body) alone = entering_grows plain (entries.Write lba body)
-event_grows plain (Zero lba sectors) alone = entering_grows plain (entries.Zero lba sectors)
-event_grows plain Flush alone = cache_grows plain (cache_after_commit (frontier_end plain) plain.cache) plain.pins
+pub event_grows : (plain : PlainState) (event : PlainEvent) → GrowsByOne plain (plain_after event plain)
+event_grows plain (Write lba body) = entering_grows plain (entries.Write lba body)
+event_grows plain (Zero lba sectors) = entering_grows plain (entries.Zero lba sectors)
+event_grows plain Flush = cache_grows plain (cache_after_commit (frontier_end plain) plain.cache) plain.pins
     (commit_told (frontier_end plain) plain.cache)
-event_grows plain (Look lba sectors) alone =
+event_grows plain (Look lba sectors) =
     let read : PlainCache = after_reads (look_calls plain lba sectors) plain.cache in
     let pins : List ℕ = cond (passes_look plain lba sectors) (plain.pins ++ objects_read plain lba sectors) plain.pins in
     either_grows plain (may_transfer plain.geometry lba sectors) (record plain { cache = read; pins = pins }) plain
     (cache_grows plain read pins (still_told plain.cache.left (look_calls plain lba sectors))) (same_grows plain)
-event_grows plain (Release numbers) alone =
+event_grows plain (Release numbers) =
     let pins : List ℕ = without_pins numbers plain.pins in
     either_grows plain (are_pinned numbers plain.pins) (record plain { pins = pins }) plain
     (cache_grows plain plain.cache pins refl) (same_grows plain)
-event_grows plain Seal alone =
+event_grows plain Seal =
     let objects : List StreamObject = plain.objects ++ record { content = Data; end = end_of_next plain } ∷ [] in
     let window : WindowState = entered (plain.window.last + 1) false plain.window in
     either_grows plain (has_unsealed plain && not (is_busy plain)) (record plain { objects = objects; window = window }) plain
-    (window_grows plain objects window plain.checkpoint (omega arith) refl) (same_grows plain)
-event_grows plain TakeJob alone =
+    (window_grows plain objects window plain.checkpoint (omega arith)) (same_grows plain)
+event_grows plain TakeJob =
     let window = window_after_take (lowest_ready plain.window.objects) plain.window in
     let e = take_last (lowest_ready plain.window.objects) plain.window in
-    window_grows plain plain.objects window plain.checkpoint (omega (arith, e)) refl
-event_grows plain (JobDone job) alone =
+    window_grows plain plain.objects window plain.checkpoint (omega (arith, e))
+event_grows plain (JobDone job) =
     let e = done_last job plain.window in
     window_grows plain plain.objects (window_after_done job plain.window) (checkpoint_after_done job plain) (omega (arith, e))
-    (checkpoint_stays job plain alone)
-event_grows plain (JobFailed job) alone =
+event_grows plain (JobFailed job) =
     let e = failed_last job plain.window in
-    window_grows plain plain.objects (window_after_failed job plain.window) plain.checkpoint (omega (arith, e)) refl
-event_grows plain SealCheckpoint alone =
+    window_grows plain plain.objects (window_after_failed job plain.window) plain.checkpoint (omega (arith, e))
+event_grows plain SealCheckpoint =
     let end = end_at (stream_in plain) (last_number (stream_in plain)) in
     let objects : List StreamObject = plain.objects ++ record { content = Checkpoint; end = end } ∷ [] in
     let window : WindowState = entered (plain.window.last + 1) true plain.window in
     either_grows plain (is_busy plain) plain (record plain { objects = objects; window = window })
-    (same_grows plain) (window_grows plain objects window plain.checkpoint (omega arith) refl)
-event_grows plain TakeRemove alone = taking_grows plain plain.removal (to_remove plain)
-event_grows plain (RemoveDone number) alone =
+    (same_grows plain) (window_grows plain objects window plain.checkpoint (omega arith))
+event_grows plain TakeRemove = taking_grows plain plain.removal (to_remove plain)
+event_grows plain (RemoveDone number) =
     let gone : PlainState = record plain { removed = plain.removed ++ number ∷ []; removal = None } in
     either_grows plain (is_out number plain.removal) gone plain
     (removal_grows plain (plain.removed ++ number ∷ []) plain.given_out None) (same_grows plain)
-event_grows plain (RemoveFailed number) alone =
+event_grows plain (RemoveFailed number) =
     either_grows plain (is_out number plain.removal) (record plain { removal = None }) plain
     (removal_grows plain plain.removed plain.given_out None) (same_grows plain)
-event_grows plain Status alone = same_grows plain
+event_grows plain Status = same_grows plain
 
--- a volume that opens blank goes on to
-pub still_opens : (old new : PlainState) → GrowsByOne old new → OpensBlank old → OpensBlank new
-still_opens old new grows opens = record {
-  number = grows.number ∙ opens.number;
-  end = grows.end ∙ opens.end;
-  checkpoint = ap (λ (c : PlainCheckpoint). c.number) grows.checkpoint ∙ opens.checkpoint;
-  opening = grows.opening ∙ opens.opening ∙ ap blank (ap (λ (g : Geometry). g.sectors) (sym grows.geometry));
-  owned = grows.owned ∙ opens.owned;
+-- ---- removals
+
+-- as many objects were removed and given out for it, and the same removal is out
+pub record KeepsRemovals (old new : PlainState) : Type 0 where
+  pub removed : new.removed ≡ old.removed
+  pub given_out : new.given_out ≡ old.given_out
+  pub removal : new.removal ≡ old.removal
+
+pub same_removals : (plain : PlainState) → KeepsRemovals plain plain
+same_removals plain = record { removed = refl; given_out = refl; removal = refl }
+
+either_removals : (plain : PlainState) (b : Bool) (x y : PlainState) → KeepsRemovals plain x → KeepsRemovals plain y
+    → KeepsRemovals plain (cond b x y)
+either_removals plain true x y keeps other = keeps
+either_removals plain false x y other keeps = keeps
+
+-- an event is none of a removal
+abbrev pub is_no_removal : PlainEvent → Bool
+is_no_removal TakeRemove = false
+is_no_removal (RemoveDone number) = false
+is_no_removal (RemoveFailed number) = false
+is_no_removal event = true
+
+pub event_keeps_removals : (plain : PlainState) (event : PlainEvent) → is_no_removal event ≡ true
+    → KeepsRemovals plain (plain_after event plain)
+event_keeps_removals plain (Write lba body) is = record { removed = refl; given_out = refl; removal = refl }
+event_keeps_removals plain (Zero lba sectors) is = record { removed = refl; given_out = refl; removal = refl }
+event_keeps_removals plain Flush is = record { removed = refl; given_out = refl; removal = refl }
+event_keeps_removals plain (Look lba sectors) is =
+    let read : PlainCache = after_reads (look_calls plain lba sectors) plain.cache in
+    let pins : List ℕ = cond (passes_look plain lba sectors) (plain.pins ++ objects_read plain lba sectors) plain.pins in
+    either_removals plain (may_transfer plain.geometry lba sectors) (record plain { cache = read; pins = pins }) plain
+    (record { removed = refl; given_out = refl; removal = refl }) (same_removals plain)
+event_keeps_removals plain (Release numbers) is =
+    either_removals plain (are_pinned numbers plain.pins) (record plain { pins = without_pins numbers plain.pins }) plain
+    (record { removed = refl; given_out = refl; removal = refl }) (same_removals plain)
+event_keeps_removals plain Seal is =
+    let objects : List StreamObject = plain.objects ++ record { content = Data; end = end_of_next plain } ∷ [] in
+    let window : WindowState = entered (plain.window.last + 1) false plain.window in
+    either_removals plain (has_unsealed plain && not (is_busy plain)) (record plain { objects = objects; window = window }) plain
+    (record { removed = refl; given_out = refl; removal = refl }) (same_removals plain)
+event_keeps_removals plain TakeJob is = record { removed = refl; given_out = refl; removal = refl }
+event_keeps_removals plain (JobDone job) is = record { removed = refl; given_out = refl; removal = refl }
+event_keeps_removals plain (JobFailed job) is = record { removed = refl; given_out = refl; removal = refl }
+event_keeps_removals plain SealCheckpoint is =
+    let end = end_at (stream_in plain) (last_number (stream_in plain)) in
+    let objects : List StreamObject = plain.objects ++ record { content = Checkpoint; end = end } ∷ [] in
+    let window : WindowState = entered (plain.window.last + 1) true plain.window in
+    either_removals plain (is_busy plain) plain (record plain { objects = objects; window = window })
+    (same_removals plain) (record { removed = refl; given_out = refl; removal = refl })
+event_keeps_removals plain TakeRemove is = absurd cc
+event_keeps_removals plain (RemoveDone number) is = absurd cc
+event_keeps_removals plain (RemoveFailed number) is = absurd cc
+event_keeps_removals plain Status is = same_removals plain
+
+-- a line leaves no removal out, where it leaves the removals alone
+pub still_at_once : (old new : PlainState) → KeepsRemovals old new → RemovesAtOnce old → RemovesAtOnce new
+still_at_once old new keeps at_once = record {
+  none_out = keeps.removal ∙ at_once.none_out;
+  gone = keeps.given_out ∙ at_once.gone ∙ sym keeps.removed;
 }

@@ -14,7 +14,6 @@ use Rattle.lsvd_names.specs.declared.name.ObjName.{ObjName}
 use Rattle.lsvd_objstore.specs.Memory.{Kept, told_receipt}
 use Rattle.lsvd_objstore.specs.Store.{ReceiptState}
 use Rattle.lsvd_objstore.specs.Objects.{Objects, found, IsPut}
-use Rattle.object_format.specs.declared.expected.Expected.{Expected}
 use Rattle.object_recovery.specs.Checkpoints.{expected_of}
 use Rattle.object_uploads.specs.State.{JobState}
 use Rattle.object_uploads.specs.Order.{IsUploads}
@@ -22,7 +21,6 @@ use Rattle.object_uploads.specs.Changes.{IsOut, IsJobOf}
 use Rattle.object_uploads.proofs.UploadsKept.{frontier_below}
 use Rattle.obj_log.specs.State.{ObjLogState}
 use Rattle.obj_log.specs.Changes.{expected_of_volume}
-use Rattle.stopped_volume.specs.Opening.{IsCheckpointOf}
 use Rattle.stopped_volume.specs.Super.{HasVolume}
 use Rattle.upload_window.specs.declared.object.OpenObject.{OpenObject}
 use Rattle.upload_window.specs.Window.{WindowState, Ascends, IsAcknowledged, has_number, below_lowest, below_open, is_ready}
@@ -33,7 +31,11 @@ use Rattle.plain_disk.specs.declared.event.PlainEvent.TheVariants as events
 use Rattle.plain_disk.specs.declared.event.PlainReply.TheVariants as replies
 use Rattle.plain_disk.specs.State.{PlainState}
 use Rattle.plain_disk.specs.Objects.{reply_of_taken, window_after_take, window_after_failed}
+use Rattle.plain_disk.specs.Removals.{has}
 use Rattle.plain_disk.specs.Step.{plain_reply, plain_after}
+use Rattle.plain_disk.proofs.CheckpointLemmas.{given_is_unneeded}
+use Rattle.plain_disk.proofs.OpeningLemmas.{events_keep_opening}
+use Rattle.plain_disk.proofs.MarkedLemmas.{events_seal}
 use Rattle.refine_store.specs.Puts.{IsObjectOf}
 use Rattle.refine_store.proofs.JobLemmas.{job_is_object}
 use Rattle.refine_store.proofs.KeepLemmas.{events_keep_object}
@@ -55,8 +57,9 @@ use Rattle.replay_rig.specs.Puts.{IsJobTaken}
 use Rattle.replay_rig.specs.Crash.{IsPutAs}
 use Rattle.object_uploads.specs.Image.{IsReceiptFor}
 use Rattle.replay_rig.specs.Rig.{RigState, rig_of, script_uuid, expected_of_plain, AreUnderWay, HasBytesOfObject, HasStored}
-use Rattle.replay_rig.specs.Rig.{ShowsPlain}
-use Rattle.replay_rig.proofs.PlainLemmas.{GrowsByOne, event_grows, still_opens}
+use Rattle.replay_rig.specs.Rig.{IsKeptObject, ShowsPlain}
+use Rattle.replay_rig.proofs.PlainLemmas.{GrowsByOne, KeepsRemovals, is_no_removal, event_grows, event_keeps_removals}
+use Rattle.replay_rig.proofs.PlainLemmas.{still_at_once}
 use Rattle.replay_rig.proofs.Says.{says_reply, done_counts}
 use Rattle.replay_rig.proofs.Describing.{put_keeps_volume}
 use Rattle.replay_rig.proofs.Stepped.{ShowsVolume, volume_shown, step_of_plain, bytes_kept, on_its_way, stored_still}
@@ -168,13 +171,14 @@ puts_go_on : (old : RigState) (volume : SteppedVolume) (objects : Objects) (puts
     → (h : ShowsPlain old plain) → CountedStep told_receipt event reply old.volume volume
     → ShowsVolume h.epoch volume.volume (plain_after asked plain)
     → AreUnderWay (plain_after asked plain).window.objects puts → AllByRecursion (IsKnownPut plain old.volume.volume) puts
-    → HasStored (plain_after asked plain) objects → HasVolume script_uuid plain.geometry h.epoch objects
+    → KeepsRemovals plain (plain_after asked plain) → HasStored (plain_after asked plain) objects
+    → HasVolume script_uuid plain.geometry h.epoch objects
     → ShowsPlain (rig_after old volume objects puts) (plain_after asked plain)
-puts_go_on old volume objects puts event reply asked plain h of now are known stored described =
+puts_go_on old volume objects puts event reply asked plain h of now are known removals stored described =
     let next : PlainState = plain_after asked plain in
-    let grows = event_grows plain asked h.shows.alone in
+    let grows = event_grows plain asked in
     let object_stays = λ (number : ℕ) (bytes : List ℕ) (is : IsObjectOf (expected_of_plain plain) plain number bytes).
-    events_keep_object (expected_of_plain plain) plain number bytes asked h.shows.valid is in
+    events_keep_object (expected_of_plain plain) plain number bytes asked h.shows.valid h.opens is in
     record {
       shows = now.shows;
       pending = now.pending;
@@ -183,13 +187,15 @@ puts_go_on old volume objects puts event reply asked plain h of now are known st
       described = subst (λ g. HasVolume script_uuid g h.epoch objects) (sym grows.geometry) described;
       begun = omega (arith, h.begun);
       uuid_is = now.uuid_is;
-      opens = still_opens plain next grows h.opens;
+      opens = events_keep_opening plain asked h.opens;
+      seals = events_seal plain asked h.shows.valid h.seals;
       stopping = h.stopping ∙ sym grows.told;
       puts = are;
       put_objects = put_objects_still plain next puts grows object_stays (known_objects plain old.volume.volume puts known);
       bytes = bytes_kept old.volume.volume volume.volume puts of.step.bytes (known_waits plain old.volume.volume puts known)
           (on_its_way volume.volume next puts now.shows are) (known_bytes plain old.volume.volume puts known);
       stored = stored;
+      removes = still_at_once plain next removals h.removes;
       young = young_still old volume objects puts old.is_stopping plain next grows (omega (arith, of.count))
           (omega (arith, of.step.numbers.commits)) h.young;
     }
@@ -213,10 +219,12 @@ marked_forth n started window number is =
 
 -- the store has what it had where the window was marked
 stored_marked : (n : ℕ) (started : Bool) (old : RigState) (plain : PlainState) (asked : PlainEvent) → ShowsPlain old plain
-    → (plain_after asked plain).window ≡ marked n started plain.window → HasStored (plain_after asked plain) old.objects
-stored_marked n started old plain asked h is =
-    stored_still plain (plain_after asked plain) old.objects (event_grows plain asked h.shows.alone)
-    (λ number bytes object. events_keep_object (expected_of_plain plain) plain number bytes asked h.shows.valid object)
+    → (plain_after asked plain).window ≡ marked n started plain.window → is_no_removal asked ≡ true
+    → HasStored (plain_after asked plain) old.objects
+stored_marked n started old plain asked h is no_removal =
+    stored_still plain (plain_after asked plain) old.objects (event_grows plain asked)
+    (event_keeps_removals plain asked no_removal)
+    (λ number bytes object. events_keep_object (expected_of_plain plain) plain number bytes asked h.shows.valid h.opens object)
     (λ number positive a. marked_back n started plain.window number (subst (λ (w : WindowState). IsAcknowledged w number) is a))
     (λ number positive a. subst (λ (w : WindowState). IsAcknowledged w number) (sym is)
     (marked_forth n started plain.window number a))
@@ -239,6 +247,7 @@ none_taken None volume reply not_taken tells = refl
 none_taken (Some number) volume (told.Taken job) not_taken tells = absurd (not_taken job refl)
 none_taken (Some number) volume (told.NotEntered entry why) not_taken tells = absurd (not_refused why number tells)
 none_taken (Some number) volume (told.Planned plan) not_taken tells = (let same = tells.1 in cc)
+none_taken (Some number) volume (told.Removing receipt) not_taken tells = (let same = tells.0 in cc)
 none_taken (Some number) volume told.OutOfMemory not_taken tells = absurd tells
 none_taken (Some number) volume reply not_taken tells = cc
 
@@ -261,7 +270,8 @@ none_begun old volume reply plain not_taken of h tells now =
     subst (λ lowest. KeepsUnderWay plain.window (window_after_take lowest plain.window)) (sym none)
     (same_under_way plain.window) in (
       subst (λ lowest. SaysReply (reply_of_taken lowest) answers.Nothing) (sym none) refl,
-      goes_on old volume TakeJob reply events.TakeJob plain h of now keeps,
+      goes_on old volume TakeJob reply events.TakeJob plain h of now keeps
+          (event_keeps_removals plain events.TakeJob refl),
     )
 
 pub begun_none : (old : RigState) (volume : SteppedVolume) (reply : Reply Kept) (list : List PutView) → list ≡ old.puts
@@ -292,7 +302,7 @@ job_of_rig rig plain n job h uploads open_ is_job =
     let frontier = frontier_below objects.uploads uploads in
     let below = ap below_open window in
     let last = ap (λ (w : WindowState). w.last) window in
-    let object = job_is_object h.shows.data_at objects plain n job uploads h.shows.valid h.shows.alone h.shows.objects
+    let object = job_is_object h.shows.data_at objects plain n job uploads h.shows.valid h.shows.objects
     (omega (arith, within.0, frontier, below)) (omega (arith, within.1, last)) is_job in
     let expected : expected_of_volume objects ≡ expected_of_plain plain =
     ap (λ (g : Geometry). expected_of objects.uploads.uuid g) h.shows.objects.geometry
@@ -322,7 +332,7 @@ job_begun old volume job plain uploads of h tells now =
     (subst (λ (w : WindowState). AreUnderWay w.objects (with_begun n job.bytes old.puts)) (sym window) are)
     (all_begun (IsKnownPut plain old.volume.volume) n job.bytes old.puts (job_of_rig old plain n job h uploads open_ tells.1)
     (known_puts old plain h))
-    (stored_marked n true old plain events.TakeJob h window) h.described
+    (event_keeps_removals plain events.TakeJob refl) (stored_marked n true old plain events.TakeJob h window refl) h.described
 
 pub begun_some : (old : RigState) (volume : SteppedVolume) (job : JobState) (number : ℕ) (list : List PutView)
     → number ≡ job.name.number
@@ -369,7 +379,8 @@ job_failed n old volume job reply plain started of h now =
     (subst (λ (w : WindowState). AreUnderWay w.objects (with_failed n old.puts)) (sym window) are)
     (all_failed (IsKnownPut plain old.volume.volume) n old.puts
     (λ put known. record { object = known.object; waits = known.waits; bytes = known.bytes }) (known_puts old plain h))
-    (stored_marked n false old plain (events.JobFailed (Some n)) h window) h.described
+    (event_keeps_removals plain (events.JobFailed (Some n)) refl)
+    (stored_marked n false old plain (events.JobFailed (Some n)) h window refl) h.described
 
 pub failed_answers : (n : ℕ) (old : RigState) (volume : SteppedVolume) (job : JobState) (reply : Reply Kept) (list : List PutView)
     → ((plain : PlainState) → ShowsPlain old plain → IsTrue (is_started n plain.window.objects)) → job.name.number ≡ n
@@ -462,35 +473,33 @@ module _ (n : ℕ) (window : WindowState) (order : Ascends 0 window.objects wind
 other_name : (number n : ℕ) → (number ≡ n → ⊥) → numbered_name script_uuid number ≡ numbered_name script_uuid n → ⊥
 other_name number n other same = other (ap (λ (name : ObjName). name.number) same)
 
--- the first object is not the one that was put
-first_stays : (volume : Expected) (n : ℕ) (bytes : List ℕ) (old new : Objects) → volume.uuid ≡ script_uuid → 1 < n
-    → IsPut (numbered_name script_uuid n) bytes old new → IsCheckpointOf volume old 1 0 (λ k. None)
-    → IsCheckpointOf volume new 1 0 (λ k. None)
-first_stays volume n bytes old new uuid past put first =
-    let other : found new (numbered_name script_uuid 1) ≡ found old (numbered_name script_uuid 1) =
-    put.others (numbered_name script_uuid 1) (other_name 1 n (λ same. omega (arith, same, past))) in
-    record {
-      bytes = first.bytes;
-      present = subst (λ u. found new (numbered_name u 1) ≡ found old (numbered_name u 1)) (sym uuid) other ∙ first.present;
-      rows = first.rows;
-      is_checkpoint = first.is_checkpoint;
-      says = first.says;
-    }
+-- an object on its way was not removed: it is past the frontier
+pub open_is_kept : (n : ℕ) (rig : RigState) (plain : PlainState) → ShowsPlain rig plain
+    → list_any (has_number n) plain.window.objects ≡ true → has plain.removed n ≡ false
+open_is_kept n rig plain h is = by_case (has plain.removed n) refl
+  where
+    by_case : (b : Bool) → has plain.removed n ≡ b → has plain.removed n ≡ false
+    by_case false gone = gone
+    by_case true gone =
+        let valid = h.shows.valid in
+        let given : has plain.given_out n ≡ true = ap (λ numbers. has numbers n) h.removes.gone ∙ gone in
+        let before = (given_is_unneeded plain.checkpoint plain.given_out n valid.checkpoint.unneeded given).before in
+        let within = open_within n 0 plain.window.objects plain.window.last valid.window.order is in
+        absurd (omega (arith, before, within.0, valid.checkpoint.reached))
 
 stored_done : (n : ℕ) (bytes : List ℕ) (plain next : PlainState) (old new : Objects) → GrowsByOne plain next
+    → KeepsRemovals plain next → has plain.removed n ≡ false
     → next.window ≡ acknowledged n plain.window → Ascends 0 plain.window.objects plain.window.last → 1 < n → n ≤ plain.window.last
     → IsPut (numbered_name script_uuid n) bytes old new → IsObjectOf (expected_of_plain plain) plain n bytes
     → ((number : ℕ) (more : List ℕ) → IsObjectOf (expected_of_plain plain) plain number more
     → IsObjectOf (expected_of_plain plain) next number more)
     → HasStored plain old → HasStored next new
-stored_done n bytes plain next old new grows window order past most put object keeps stored =
+stored_done n bytes plain next old new grows removals kept window order past most put object keeps stored =
     let same : expected_of_plain next ≡ expected_of_plain plain = ap (expected_of script_uuid) grows.geometry in
     let object_next = λ (number : ℕ) (more : List ℕ) (is : IsObjectOf (expected_of_plain plain) plain number more).
     subst (λ e. IsObjectOf e next number more) (sym same) (keeps number more is) in
     record {
-      first = subst (λ e. IsCheckpointOf e new 1 0 (λ k. None)) (sym same)
-          (first_stays (expected_of_plain plain) n bytes old new refl past put stored.first);
-      acknowledged = λ number later is. elim (cases_eq number n) [
+      there = λ number is. elim (cases_eq number n) [
         | inl itself ↦ (
           bytes,
           ap (λ k. found new (numbered_name script_uuid k)) itself ∙ put.put,
@@ -498,20 +507,32 @@ stored_done n bytes plain next old new grows window order past most put object k
         )
         | inr other ↦
             let was = done_back n plain.window order number other (subst (λ (w : WindowState). IsAcknowledged w number)
-            window is) in
-            let had = stored.acknowledged number later was in
+            window is.acknowledged) in
+            let had = stored.there number (record {
+              some = is.some;
+              acknowledged = was;
+              kept = ap (λ numbers. has numbers number) (sym removals.removed) ∙ is.kept;
+            }) in
             let stays = put.others (numbered_name script_uuid number) (other_name number n other) in
             (had.0, stays ∙ had.1, object_next number had.0 had.2)
       ];
       none_else = λ number not_. elim (cases_eq number n) [
         | inl itself ↦
-            absurd (not_ (omega (arith, itself, past))
-            (subst (λ k. IsAcknowledged next.window k) (sym itself)
-            (subst (λ (w : WindowState). IsAcknowledged w n) (sym window) (done_itself n plain.window order most))))
+            absurd (not_ (subst (IsKeptObject next) (sym itself) (record {
+              some = omega (arith, past);
+              acknowledged =
+                  subst (λ (w : WindowState). IsAcknowledged w n) (sym window) (done_itself n plain.window order most);
+              kept = ap (λ numbers. has numbers n) removals.removed ∙ kept;
+            })))
         | inr other ↦
             put.others (numbered_name script_uuid number) (other_name number n other)
-            ∙ stored.none_else number (λ positive is. not_ positive
-            (subst (λ (w : WindowState). IsAcknowledged w number) (sym window) (done_forth n plain.window order number other is)))
+            ∙ stored.none_else number (λ is. not_ (record {
+              some = is.some;
+              acknowledged =
+                  subst (λ (w : WindowState). IsAcknowledged w number) (sym window)
+                  (done_forth n plain.window order number other is.acknowledged);
+              kept = ap (λ numbers. has numbers number) removals.removed ∙ is.kept;
+            }))
       ];
     }
 
@@ -532,14 +553,17 @@ job_done n bytes old volume store job receipt reply plain started is put of h no
     let window : next.window ≡ acknowledged n plain.window =
     ap (λ b. cond b (acknowledged n plain.window) plain.window) started in
     let are = done_under_way n 0 objects plain.window.last old.puts order open_ h.puts in
+    let removals = event_keeps_removals plain (events.JobDone (Some n)) refl in
     puts_go_on old volume store (without_put n old.puts) (JobDone job receipt) reply (events.JobDone (Some n)) plain h of now
     (subst (λ (w : WindowState). AreUnderWay w.objects (without_put n old.puts)) (sym window) are)
     (all_without (IsKnownPut plain old.volume.volume) n old.puts (known_puts old plain h))
-    (stored_done n bytes plain next old.objects store (event_grows plain (events.JobDone (Some n)) h.shows.alone) window order
+    removals
+    (stored_done n bytes plain next old.objects store (event_grows plain (events.JobDone (Some n))) removals
+    (open_is_kept n old plain h open_) window order
     within.0 within.1 put
     (all_at (HasBytesOfObject plain) n old.puts (out_put n bytes) is h.put_objects)
     (λ number more object. events_keep_object (expected_of_plain plain) plain number more (events.JobDone (Some n))
-    h.shows.valid object)
+    h.shows.valid h.opens object)
     h.stored)
     (put_keeps_volume n bytes old.objects store plain.geometry h.epoch put h.described)
 

@@ -42,6 +42,7 @@ use Rattle.replay_rig.specs.declared.answer.Answer.TheVariants as answers
 use Rattle.replay_rig.specs.Answers.{SaysReply, SaysCounts}
 use Rattle.replay_rig.specs.Steps.{AnswersRead}
 use Rattle.replay_rig.specs.Rig.{RigState, rig_of, IsYoung, ShowsPlain}
+use Rattle.replay_rig.proofs.PlainLemmas.{is_no_removal, event_keeps_removals}
 use Rattle.replay_rig.proofs.Says.{IsCountReply, says_reply, lacks_unsaid}
 use Rattle.replay_rig.proofs.Stepped.{ShowsVolume, volume_shown, step_of_plain, KeepsUnderWay, same_under_way}
 use Rattle.replay_rig.proofs.Stepped.{goes_on, goes_on_with}
@@ -122,6 +123,7 @@ looked_rig lba sectors old volume plain reply asked h of is now =
     subst (λ e. KeepsUnderWay plain.window (plain_after e plain).window) (sym is)
     (windows_stay plain (plain_after (events.Look lba sectors) plain) (look_reads plain lba sectors)) in
     goes_on old volume (Look lba sectors) reply asked plain h of now keeps
+    (event_keeps_removals plain asked (ap is_no_removal is))
 
 pub look_shows : (lba sectors : ℕ) (old : RigState) (volume : SteppedVolume) (plain : PlainState) (reply : Reply Kept)
     → ShowsPlain old plain
@@ -160,6 +162,10 @@ no_plan_told volume (told.Done frontier) read none tells = cc
 no_plan_told volume (told.NotDone job receipt) read none tells = cc
 no_plan_told volume told.Returned read none tells = cc
 no_plan_told volume (told.NotReturned job) read none tells = cc
+no_plan_told volume (told.Removing receipt) read none tells = (let is = tells.0 in cc)
+no_plan_told volume told.Removed read none tells = cc
+no_plan_told volume told.GivenBack read none tells = cc
+no_plan_told volume (told.NotGivenBack receipt) read none tells = cc
 no_plan_told volume (told.Told writes sealed frontier checkpoint) read none tells = cc
 no_plan_told volume told.Range read none tells = cc
 no_plan_told volume told.Nothing read none tells = cc
@@ -259,7 +265,7 @@ given_back lba sectors old middle volume plain plan reply h of back shown =
       | inl s ↦
           goes_on_with between volume (old.lines + 1) (Release plan) reply (events.Release plan.objects) looked shown back
           (subst (λ e. ShowsVolume shown.epoch volume.volume (plain_after e looked)) s.asks s.now)
-          (windows_stay looked next released) (omega arith) young
+          (windows_stay looked next released) (event_keeps_removals looked (events.Release plan.objects) refl) (omega arith) young
       | inr n ↦ absurd (let e = n.may in cc)
     ]
 

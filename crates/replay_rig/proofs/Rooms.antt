@@ -24,7 +24,7 @@ use Rattle.replay_rig.specs.Rig.{RigState, rig_of, script_uuid, owner_at, ShowsP
 use Rattle.replay_rig.proofs.Says.{says_reply, lacks_unsaid, counted_asks, counted_reply}
 use Rattle.replay_rig.proofs.Stepped.{ShowsVolume, volume_shown, HasRoomForEvent, step_of_plain, bytes_kept}
 use Rattle.replay_rig.proofs.Stepped.{on_its_way, goes_on}
-use Rattle.replay_rig.proofs.Windows.{quiet_windows}
+use Rattle.replay_rig.proofs.Windows.{quiet_windows, quiet_removals}
 
 -- ---- a volume that only has more room
 
@@ -61,11 +61,13 @@ untouched_rig old volume lines plain later h of =
       begun = omega (arith, h.begun, later);
       uuid_is = now.uuid_is;
       opens = h.opens;
+      seals = h.seals;
       stopping = h.stopping;
       puts = h.puts;
       put_objects = h.put_objects;
       bytes = subst (λ v. AllByRecursion (λ put. HasBytesOf v put.number put.bytes) old.puts) (sym of.volume) h.bytes;
       stored = h.stored;
+      removes = h.removes;
       young = record {
         entries = omega (arith, h.young.entries, later);
         objects = omega (arith, h.young.objects, later);
@@ -86,11 +88,13 @@ later_rig old lines plain later h = record {
   begun = omega (arith, h.begun, later);
   uuid_is = h.uuid_is;
   opens = h.opens;
+  seals = h.seals;
   stopping = h.stopping;
   puts = h.puts;
   put_objects = h.put_objects;
   bytes = h.bytes;
   stored = h.stored;
+  removes = h.removes;
   young = record {
     entries = omega (arith, h.young.entries, later);
     objects = omega (arith, h.young.objects, later);
@@ -113,6 +117,7 @@ no_step_rig old volume plain event reply h of now = record {
   begun = omega (arith, h.begun);
   uuid_is = now.uuid_is;
   opens = h.opens;
+  seals = h.seals;
   stopping = h.stopping;
   puts = h.puts;
   put_objects = h.put_objects;
@@ -120,6 +125,7 @@ no_step_rig old volume plain event reply h of now = record {
       (on_its_way old.volume.volume plain old.puts h.shows h.puts)
       (on_its_way volume.volume plain old.puts now.shows h.puts) h.bytes;
   stored = h.stored;
+  removes = h.removes;
   young = record {
     entries = omega (arith, h.young.entries);
     objects = omega (arith, h.young.objects);
@@ -159,7 +165,8 @@ counts_on event reply old middle volume plain is of room steps h =
         says = λ answer says. says_reply middle.volume reply (plain_reply plain s.asked) answer s.tells
             (counted_reply event s.asked middle.volume plain is s.asks) says;
         now = goes_on ready volume event reply s.asked plain before steps s.now
-            (quiet_windows event s.asked middle.volume plain is s.asks h.shows.valid);
+            (quiet_windows event s.asked middle.volume plain is s.asks h.shows.valid)
+            (quiet_removals event s.asked middle.volume plain is s.asks);
       })
       | inr n ↦ inr (
         no_step_rig ready volume plain event reply before steps n.now,

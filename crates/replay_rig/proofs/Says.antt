@@ -21,7 +21,7 @@ use Rattle.plain_disk.specs.Objects.{is_busy, has_unsealed, is_under_way}
 use Rattle.plain_disk.specs.Step.{plain_reply}
 use Rattle.vol_core.specs.declared.event.Event.{Event}
 use Rattle.vol_core.specs.declared.event.Event.TheVariants.{Write, Zero, Flush, Look, Release, Seal, TakeJob, JobDone, JobFailed}
-use Rattle.vol_core.specs.declared.event.Event.TheVariants.{Status}
+use Rattle.vol_core.specs.declared.event.Event.TheVariants.{SealCheckpoint, TakeRemove, RemoveDone, RemoveFailed, Status}
 use Rattle.vol_core.specs.declared.reply.EntryRefusal.{EntryRefusal}
 use Rattle.vol_core.specs.declared.reply.EntryRefusal.TheVariants as refusals
 use Rattle.vol_core.specs.declared.reply.Reply.{Reply}
@@ -117,6 +117,10 @@ says_reply volume (told.Done frontier) plain answer tells counts says = subst (�
 says_reply volume (told.NotDone job receipt) plain answer tells counts says = subst (λ r. SaysReply r answer) (sym tells) says
 says_reply volume told.Returned plain answer tells counts says = absurd (subst IsCountReply tells counts)
 says_reply volume (told.NotReturned job) plain answer tells counts says = subst (λ r. SaysReply r answer) (sym tells) says
+says_reply volume (told.Removing receipt) plain answer tells counts says = absurd (subst IsCountReply tells.0 counts)
+says_reply volume told.Removed plain answer tells counts says = absurd (subst IsCountReply tells counts)
+says_reply volume told.GivenBack plain answer tells counts says = absurd (subst IsCountReply tells counts)
+says_reply volume (told.NotGivenBack receipt) plain answer tells counts says = subst (λ r. SaysReply r answer) (sym tells) says
 says_reply volume (told.Told writes sealed frontier checkpoint) plain answer tells counts says =
     subst (λ r. SaysReply r answer) (sym tells) says
 says_reply volume told.Range plain answer tells counts says = subst (λ r. SaysReply r answer) (sym tells) says
@@ -148,12 +152,16 @@ counted_asks (Write lba body) asked volume other is asks = asks
 counted_asks (Zero lba sectors) asked volume other is asks = asks
 counted_asks Flush asked volume other is asks = asks
 counted_asks Seal asked volume other is asks = asks
+counted_asks SealCheckpoint asked volume other is asks = asks
 counted_asks Status asked volume other is asks = asks
 counted_asks (Look lba sectors) asked volume other is asks = cc
 counted_asks (Release plan) asked volume other is asks = cc
 counted_asks TakeJob asked volume other is asks = cc
 counted_asks (JobDone job receipt) asked volume other is asks = cc
 counted_asks (JobFailed job) asked volume other is asks = cc
+counted_asks TakeRemove asked volume other is asks = cc
+counted_asks (RemoveDone number) asked volume other is asks = cc
+counted_asks (RemoveFailed receipt) asked volume other is asks = cc
 
 pub counted_reply : (event : Event Kept) (asked : PlainEvent) (volume : VolumeState) (plain : PlainState)
     → is_counted event ≡ true
@@ -167,12 +175,17 @@ counted_reply Flush asked volume plain is asks =
 counted_reply Seal asked volume plain is asks =
     subst (λ e. IsCountReply (plain_reply plain e)) (sym asks)
     (either_counts (has_unsealed plain) _ _ (either_counts (is_busy plain) _ _ tt tt) tt)
+counted_reply SealCheckpoint asked volume plain is asks =
+    subst (λ e. IsCountReply (plain_reply plain e)) (sym asks) (either_counts (is_busy plain) _ _ tt tt)
 counted_reply Status asked volume plain is asks = subst (λ e. IsCountReply (plain_reply plain e)) (sym asks) tt
 counted_reply (Look lba sectors) asked volume plain is asks = cc
 counted_reply (Release plan) asked volume plain is asks = cc
 counted_reply TakeJob asked volume plain is asks = cc
 counted_reply (JobDone job receipt) asked volume plain is asks = cc
 counted_reply (JobFailed job) asked volume plain is asks = cc
+counted_reply TakeRemove asked volume plain is asks = cc
+counted_reply (RemoveDone number) asked volume plain is asks = cc
+counted_reply (RemoveFailed receipt) asked volume plain is asks = cc
 
 pub counted_receipt : (event : Event Kept) → is_counted event ≡ true → HasItsReceipt told_receipt event
 counted_receipt (Write lba body) is = tt
@@ -184,4 +197,8 @@ counted_receipt Seal is = tt
 counted_receipt TakeJob is = tt
 counted_receipt (JobDone job receipt) is = cc
 counted_receipt (JobFailed job) is = tt
+counted_receipt SealCheckpoint is = tt
+counted_receipt TakeRemove is = tt
+counted_receipt (RemoveDone number) is = tt
+counted_receipt (RemoveFailed receipt) is = tt
 counted_receipt Status is = tt

@@ -5,20 +5,26 @@ use Rattle.lsvd_device.specs.Device.{HoldsNow}
 use Rattle.lsvd_device.specs.Medium.{Medium, MayLeave}
 use Rattle.lsvd_objstore.specs.Objects.{Objects}
 use Rattle.cache_log.specs.Committed.{IsOnDisk}
+use Rattle.object_stream.specs.Landed.{Numbers}
 use Rattle.stopped_volume.specs.Objects.{landed_in}
 use Rattle.stopped_volume.specs.Device.{CacheOwner}
 use Rattle.plain_disk.specs.declared.log.PlainCommit.{PlainCommit}
 use Rattle.plain_disk.specs.State.{PlainState, stream_in, history_length, frontier_of, frontier_end}
 use Rattle.plain_disk.specs.Stops.{recovered_number}
-use Rattle.plain_disk.specs.Valid.{IsPlainVolume, MayLand}
+use Rattle.plain_disk.specs.Found.{Finds, HasFoundCounts, found_in}
+use Rattle.plain_disk.specs.Valid.{IsPlainVolume}
+use Rattle.plain_disk.proofs.FoundLemmas.{found_has_counts}
 use Rattle.plain_disk.proofs.EndLemmas.{ends_grow, ends_within}
-use Rattle.plain_disk.proofs.StopLemmas.{recovers_frontier, recovers_sealed}
+use Rattle.plain_disk.proofs.StopLemmas.{recovers_frontier}
 use Rattle.refine_log.specs.Stops.{HasCommitted, IsFoundCommit, HasCommit, StopKeeps}
 use Rattle.refine_log.specs.StopLaws.{ShowsStops}
 use Rattle.refine_log.proofs.StopLemmas.{now_keeps}
 use Rattle.refine_mount.specs.Found.{HasObjects}
 use Rattle.refine_mount.specs.Mounted.{end_of_object}
-use Rattle.refine_store.proofs.LeftLemmas.{left_has_objects}
+use Rattle.refine_store.specs.Stored.{HasVolumeUpTo}
+use Rattle.refine_store.proofs.LeftLemmas.{left_has_volume}
+use Rattle.refine_store.proofs.VolumeLemmas.{volume_has_objects}
+use Rattle.vol_recover.proofs.MadeLemmas.{finds_of}
 use Rattle.vol_core.specs.Volume.{VolumeState}
 use Rattle.replay_rig.specs.Rig.{RigState, script_uuid, owner_at, expected_of_plain, ShowsPlain, Lands, IsKeptByRig}
 use Rattle.replay_rig.proofs.Crashing.{puts_now, are_puts, may_be_left}
@@ -49,24 +55,31 @@ ends_past plain number valid from to =
 
 -- ---- stops of the store
 
--- the number that a mount recovers
+-- which objects have landed, and the number that a mount recovers
+abbrev pub landed_left : Objects → PlainState → Numbers
+landed_left new plain = landed_in new (expected_of_plain plain)
+
 abbrev pub number_left : Objects → PlainState → ℕ
-number_left new plain = recovered_number (landed_in new (expected_of_plain plain)) plain
+number_left new plain = recovered_number (landed_left new plain) plain
 
-pub has_left : (rig : RigState) (plain : PlainState) (letters : List ℕ) (new : Objects) → ShowsPlain rig plain
-    → Lands rig.puts letters rig.objects new
-    → HasObjects script_uuid plain (number_left new plain) new × MayLand plain (landed_in new (expected_of_plain plain))
-has_left rig plain letters new h lands =
-    left_has_objects script_uuid h.epoch plain (puts_now plain rig.puts new) new h.shows.valid
-    (are_puts rig plain letters new h lands)
-    (may_be_left rig plain letters new h lands)
+module _ (rig : RigState) (plain : PlainState) (letters : List ℕ) (new : Objects) (h : ShowsPlain rig plain)
+    (lands : Lands rig.puts letters rig.objects new) where
+  pub up_to : HasVolumeUpTo script_uuid h.epoch plain (landed_left new plain) new
+  up_to =
+      left_has_volume script_uuid h.epoch plain (puts_now plain rig.puts new) new h.shows.valid
+      (are_puts rig plain letters new h lands) (may_be_left rig plain letters new h lands)
 
--- it is at most that of the last object
-pub left_within : (plain : PlainState) (new : Objects) → IsPlainVolume plain → number_left new plain ≤ plain.window.last
-left_within plain new valid =
-    let sealed = recovers_sealed plain (landed_in new (expected_of_plain plain)) valid in
-    let last = valid.last in
-    omega (arith, sealed, last)
+  pub finds : Finds (landed_left new plain) plain
+  finds = finds_of script_uuid h.epoch plain (landed_left new plain) new h.shows.valid up_to
+
+  pub counts : HasFoundCounts (landed_left new plain) plain
+  counts = found_has_counts plain (landed_left new plain) finds
+
+  pub has_left : HasObjects script_uuid (found_in (landed_left new plain) plain) (number_left new plain) new
+  has_left = volume_has_objects script_uuid h.epoch plain (landed_left new plain) new h.shows.valid up_to
+
+  pub left_from : frontier_of plain ≤ number_left new plain
+  left_from = recovers_frontier plain (landed_left new plain) h.shows.valid up_to.may
 
 -- ---- the whole
 
@@ -92,10 +105,11 @@ kept_by_rig rig plain h on_disk =
           let is = keeps left may in
           (is.0, is.1, λ number from to. is.2 (end_of_object number plain) (ends_past plain number valid from to).0))
           (now_keeps owner h.shows.data_at rig.volume.volume.log plain (rig_stops rig plain h on_disk));
-      store = λ letters objects lands.
-          let has = has_left rig plain letters objects h lands in
-          let from = recovers_frontier plain (landed_in objects (expected_of_plain plain)) valid has.1 in
-          (has.0, from, left_within plain objects valid);
+      store = λ letters objects lands. (
+        has_left rig plain letters objects h lands,
+        left_from rig plain letters objects h lands,
+        (counts rig plain letters objects h lands).sealed,
+      );
     }
 
 -- and so of the same rig

@@ -1,7 +1,6 @@
 -- A step of a volume with room for its calls is one of the plain volume that it shows.
 use Rattle.std.proofs.Common.{◌≡◌, ℕ, ◌+◌, ◌<◌, ◌≤◌, ◌⊎◌, Bool, true, false, List, [], ◌∷◌, nat_eq, refl, sym, ◌∙◌, ap, subst}
 use Rattle.std.proofs.Common.{inl, inr, arith}
-use Rattle.std.specs.Prelude.{None}
 use Rattle.std.specs.List.{AllByRecursion, list_any}
 use Rattle.std.proofs.Math.Bool.{or-true}
 use Rattle.std.proofs.lemmas.Bool.{eq-eqb}
@@ -12,12 +11,14 @@ use Rattle.upload_window.specs.declared.object.OpenObject.{OpenObject}
 use Rattle.upload_window.specs.Window.{WindowState, IsAcknowledged, has_number}
 use Rattle.plain_disk.specs.declared.event.PlainEvent.{PlainEvent}
 use Rattle.plain_disk.specs.State.{PlainState}
+use Rattle.plain_disk.specs.Removals.{has}
 use Rattle.plain_disk.specs.Step.{plain_reply, plain_after}
+use Rattle.plain_disk.proofs.OpeningLemmas.{events_keep_opening}
+use Rattle.plain_disk.proofs.MarkedLemmas.{events_seal}
 use Rattle.refine_log.specs.Pending.{ShowsPending}
 use Rattle.refine_store.specs.Puts.{IsObjectOf}
 use Rattle.refine_store.proofs.KeepLemmas.{events_keep_object}
 use Rattle.object_recovery.specs.Checkpoints.{expected_of}
-use Rattle.stopped_volume.specs.Opening.{IsCheckpointOf}
 use Rattle.stopped_volume.specs.Super.{HasVolume}
 use Rattle.vol_core.specs.declared.event.Event.{Event}
 use Rattle.vol_core.specs.declared.reply.Reply.{Reply}
@@ -30,7 +31,7 @@ use Rattle.vol_core.specs.Stops.{HasOwnCommits}
 use Rattle.replay_rig.specs.Puts.{PutView}
 use Rattle.replay_rig.specs.Rig.{RigState, rig_of, script_uuid, owner_at, expected_of_plain, AreUnderWay, IsFirstUnderWay}
 use Rattle.replay_rig.specs.Rig.{HasBytesOfObject, HasStored, IsYoung, ShowsPlain}
-use Rattle.replay_rig.proofs.PlainLemmas.{GrowsByOne, event_grows, still_opens}
+use Rattle.replay_rig.proofs.PlainLemmas.{GrowsByOne, KeepsRemovals, event_grows, still_at_once}
 
 -- ---- one step
 
@@ -158,20 +159,27 @@ on_its_way volume plain puts shows are =
     (puts_open plain.window.objects puts are)
 
 -- what the store has goes on, where no object was acknowledged
-pub stored_still : (old new : PlainState) (objects : Objects) → GrowsByOne old new
+pub stored_still : (old new : PlainState) (objects : Objects) → GrowsByOne old new → KeepsRemovals old new
     → ((number : ℕ) (bytes : List ℕ) → IsObjectOf (expected_of_plain old) old number bytes
     → IsObjectOf (expected_of_plain old) new number bytes)
     → ((number : ℕ) → 0 < number → IsAcknowledged new.window number → IsAcknowledged old.window number)
     → ((number : ℕ) → 0 < number → IsAcknowledged old.window number → IsAcknowledged new.window number)
     → HasStored old objects → HasStored new objects
-stored_still old new objects grows keeps back forth stored =
+stored_still old new objects grows removals keeps back forth stored =
     let same : expected_of_plain new ≡ expected_of_plain old = ap (expected_of script_uuid) grows.geometry in
     record {
-      first = subst (λ e. IsCheckpointOf e objects 1 0 (λ k. None)) (sym same) stored.first;
-      acknowledged = λ number past is.
-          let had = stored.acknowledged number past (back number (omega arith) is) in
+      there = λ number is.
+          let had = stored.there number (record {
+            some = is.some;
+            acknowledged = back number is.some is.acknowledged;
+            kept = ap (λ numbers. has numbers number) (sym removals.removed) ∙ is.kept;
+          }) in
           (had.0, had.1, subst (λ e. IsObjectOf e new number had.0) (sym same) (keeps number had.0 had.2));
-      none_else = λ number not_. stored.none_else number (λ positive is. not_ positive (forth number positive is));
+      none_else = λ number not_. stored.none_else number (λ is. not_ (record {
+        some = is.some;
+        acknowledged = forth number is.some is.acknowledged;
+        kept = ap (λ numbers. has numbers number) removals.removed ∙ is.kept;
+      }));
     }
 
 -- the objects under way keep the bytes of the plain volume's objects
@@ -211,15 +219,16 @@ pub goes_on_with : (old : RigState) (volume : SteppedVolume) (lines : ℕ) (even
     (asked : PlainEvent) (plain : PlainState)
     → (h : ShowsPlain old plain) → CountedStep told_receipt event reply old.volume volume
     → ShowsVolume h.epoch volume.volume (plain_after asked plain)
-    → KeepsUnderWay plain.window (plain_after asked plain).window → old.lines ≤ lines
+    → KeepsUnderWay plain.window (plain_after asked plain).window → KeepsRemovals plain (plain_after asked plain)
+    → old.lines ≤ lines
     → IsYoung (rig_of volume old.objects old.puts old.is_stopping lines) (plain_after asked plain)
     → ShowsPlain (rig_of volume old.objects old.puts old.is_stopping lines) (plain_after asked plain)
-goes_on_with old volume lines event reply asked plain h of now keeps later young =
+goes_on_with old volume lines event reply asked plain h of now keeps removals later young =
     let next : PlainState = plain_after asked plain in
-    let grows = event_grows plain asked h.shows.alone in
+    let grows = event_grows plain asked in
     let under_way = keeps.under_way old.puts h.puts in
     let object_stays = λ (number : ℕ) (bytes : List ℕ) (is : IsObjectOf (expected_of_plain plain) plain number bytes).
-    events_keep_object (expected_of_plain plain) plain number bytes asked h.shows.valid is in
+    events_keep_object (expected_of_plain plain) plain number bytes asked h.shows.valid h.opens is in
     record {
       shows = now.shows;
       pending = now.pending;
@@ -228,14 +237,16 @@ goes_on_with old volume lines event reply asked plain h of now keeps later young
       described = subst (λ g. HasVolume script_uuid g h.epoch old.objects) (sym grows.geometry) h.described;
       begun = omega (arith, h.begun, later);
       uuid_is = now.uuid_is;
-      opens = still_opens plain next grows h.opens;
+      opens = events_keep_opening plain asked h.opens;
+      seals = events_seal plain asked h.shows.valid h.seals;
       stopping = h.stopping ∙ sym grows.told;
       puts = under_way;
       put_objects = put_objects_still plain next old.puts grows object_stays h.put_objects;
       bytes = bytes_kept old.volume.volume volume.volume old.puts of.step.bytes
           (on_its_way old.volume.volume plain old.puts h.shows h.puts)
           (on_its_way volume.volume next old.puts now.shows under_way) h.bytes;
-      stored = stored_still plain next old.objects grows object_stays keeps.back keeps.forth h.stored;
+      stored = stored_still plain next old.objects grows removals object_stays keeps.back keeps.forth h.stored;
+      removes = still_at_once plain next removals h.removes;
       young = young;
     }
 
@@ -244,10 +255,10 @@ pub goes_on : (old : RigState) (volume : SteppedVolume) (event : Event Kept) (re
     (plain : PlainState)
     → (h : ShowsPlain old plain) → CountedStep told_receipt event reply old.volume volume
     → ShowsVolume h.epoch volume.volume (plain_after asked plain)
-    → KeepsUnderWay plain.window (plain_after asked plain).window
+    → KeepsUnderWay plain.window (plain_after asked plain).window → KeepsRemovals plain (plain_after asked plain)
     → ShowsPlain (rig_of volume old.objects old.puts old.is_stopping (old.lines + 1)) (plain_after asked plain)
-goes_on old volume event reply asked plain h of now keeps =
-    goes_on_with old volume (old.lines + 1) event reply asked plain h of now keeps (omega arith)
+goes_on old volume event reply asked plain h of now keeps removals =
+    goes_on_with old volume (old.lines + 1) event reply asked plain h of now keeps removals (omega arith)
     (young_still old volume old.objects old.puts old.is_stopping plain (plain_after asked plain)
-    (event_grows plain asked h.shows.alone) (omega (arith, of.count))
+    (event_grows plain asked) (omega (arith, of.count))
     (omega (arith, of.step.numbers.commits)) h.young)

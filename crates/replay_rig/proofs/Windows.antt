@@ -5,22 +5,24 @@ use Rattle.std.specs.List.{list_any}
 use Rattle.std.proofs.Math.Bool.{or-false}
 use Rattle.std.proofs.lemmas.Bool.{eq-eqb, ne_eqb}
 use Rattle.lsvd_objstore.specs.Memory.{Kept, told_receipt}
-use Rattle.object_stream.specs.declared.object.Content.TheVariants.{Data}
+use Rattle.object_stream.specs.declared.object.Content.TheVariants.{Data, Checkpoint}
+use Rattle.object_stream.specs.Stream.{end_at, last_number}
 use Rattle.upload_window.specs.declared.object.OpenObject.{OpenObject}
 use Rattle.upload_window.specs.Window.{WindowState, has_number, entered}
 use Rattle.plain_disk.specs.declared.event.PlainEvent.{PlainEvent}
-use Rattle.plain_disk.specs.State.{PlainState}
+use Rattle.plain_disk.specs.State.{PlainState, stream_in}
 use Rattle.plain_disk.specs.Objects.{has_unsealed, is_busy, end_of_next}
 use Rattle.plain_disk.specs.Step.{plain_after}
 use Rattle.plain_disk.specs.Valid.{IsPlainVolume}
 use Rattle.vol_core.specs.declared.event.Event.{Event}
 use Rattle.vol_core.specs.declared.event.Event.TheVariants.{Write, Zero, Flush, Look, Release, Seal, TakeJob, JobDone, JobFailed}
-use Rattle.vol_core.specs.declared.event.Event.TheVariants.{Status}
+use Rattle.vol_core.specs.declared.event.Event.TheVariants.{SealCheckpoint, TakeRemove, RemoveDone, RemoveFailed, Status}
 use Rattle.vol_core.specs.Volume.{VolumeState}
 use Rattle.vol_core.specs.Events.{Asks}
 use Rattle.replay_rig.specs.Steps.{is_counted}
 use Rattle.replay_rig.specs.Puts.{PutView}
 use Rattle.replay_rig.specs.Rig.{AreUnderWay, IsFirstUnderWay}
+use Rattle.replay_rig.proofs.PlainLemmas.{KeepsRemovals, is_no_removal, event_keeps_removals}
 use Rattle.replay_rig.proofs.Stepped.{KeepsUnderWay, same_under_way}
 
 -- ---- an object is entered, of which no put began
@@ -55,13 +57,13 @@ neither : (a b : Bool) → (a || b) ≡ false → (a ≡ false) × (b ≡ false)
 neither true b is = cc
 neither false b is = (refl, is)
 
-entered_keeps : (window : WindowState) → KeepsUnderWay window (entered (window.last + 1) false window)
-entered_keeps window =
+entered_keeps : (is_checkpoint : Bool) (window : WindowState)
+    → KeepsUnderWay window (entered (window.last + 1) is_checkpoint window)
+entered_keeps is_checkpoint window =
     let object : OpenObject = record {
       number = window.last + 1;
-      is_checkpoint = false;
-      is_started =
-          false;
+      is_checkpoint = is_checkpoint;
+      is_started = false;
       was_started = false;
     } in
     let objects : List OpenObject = window.objects in
@@ -89,8 +91,14 @@ entered_keeps window =
 seal_keeps : (plain : PlainState) (seals : Bool) (sealed : PlainState)
     → sealed.window ≡ entered (plain.window.last + 1) false plain.window
     → KeepsUnderWay plain.window (cond seals sealed plain).window
-seal_keeps plain true sealed is = subst (KeepsUnderWay plain.window) (sym is) (entered_keeps plain.window)
+seal_keeps plain true sealed is = subst (KeepsUnderWay plain.window) (sym is) (entered_keeps false plain.window)
 seal_keeps plain false sealed is = same_under_way plain.window
+
+checkpoint_keeps : (plain : PlainState) (busy : Bool) (sealed : PlainState)
+    → sealed.window ≡ entered (plain.window.last + 1) true plain.window
+    → KeepsUnderWay plain.window (cond busy plain sealed).window
+checkpoint_keeps plain true sealed is = same_under_way plain.window
+checkpoint_keeps plain false sealed is = subst (KeepsUnderWay plain.window) (sym is) (entered_keeps true plain.window)
 
 pub quiet_windows : (event : Event Kept) (asked : PlainEvent) (volume : VolumeState) (plain : PlainState)
     → is_counted event ≡ true
@@ -108,6 +116,15 @@ quiet_windows Seal asked volume plain is asks valid =
     } in
     subst (λ e. KeepsUnderWay plain.window (plain_after e plain).window) (sym asks)
     (seal_keeps plain (has_unsealed plain && not (is_busy plain)) sealed refl)
+quiet_windows SealCheckpoint asked volume plain is asks valid =
+    let sealed : PlainState = record plain {
+      objects =
+          plain.objects
+          ++ record { content = Checkpoint; end = end_at (stream_in plain) (last_number (stream_in plain)) } ∷ [];
+      window = entered (plain.window.last + 1) true plain.window;
+    } in
+    subst (λ e. KeepsUnderWay plain.window (plain_after e plain).window) (sym asks)
+    (checkpoint_keeps plain (is_busy plain) sealed refl)
 quiet_windows Status asked volume plain is asks valid =
     subst (λ e. KeepsUnderWay plain.window (plain_after e plain).window) (sym asks) (same_under_way plain.window)
 quiet_windows (Look lba sectors) asked volume plain is asks valid = cc
@@ -115,3 +132,24 @@ quiet_windows (Release plan) asked volume plain is asks valid = cc
 quiet_windows TakeJob asked volume plain is asks valid = cc
 quiet_windows (JobDone job receipt) asked volume plain is asks valid = cc
 quiet_windows (JobFailed job) asked volume plain is asks valid = cc
+quiet_windows TakeRemove asked volume plain is asks valid = cc
+quiet_windows (RemoveDone number) asked volume plain is asks valid = cc
+quiet_windows (RemoveFailed receipt) asked volume plain is asks valid = cc
+
+-- and the removals
+pub quiet_removals : (event : Event Kept) (asked : PlainEvent) (volume : VolumeState) (plain : PlainState)
+    → is_counted event ≡ true → Asks told_receipt volume event asked → KeepsRemovals plain (plain_after asked plain)
+quiet_removals (Write lba body) asked volume plain is asks = event_keeps_removals plain asked (ap is_no_removal asks)
+quiet_removals (Zero lba sectors) asked volume plain is asks = event_keeps_removals plain asked (ap is_no_removal asks)
+quiet_removals Flush asked volume plain is asks = event_keeps_removals plain asked (ap is_no_removal asks)
+quiet_removals Seal asked volume plain is asks = event_keeps_removals plain asked (ap is_no_removal asks)
+quiet_removals SealCheckpoint asked volume plain is asks = event_keeps_removals plain asked (ap is_no_removal asks)
+quiet_removals Status asked volume plain is asks = event_keeps_removals plain asked (ap is_no_removal asks)
+quiet_removals (Look lba sectors) asked volume plain is asks = cc
+quiet_removals (Release plan) asked volume plain is asks = cc
+quiet_removals TakeJob asked volume plain is asks = cc
+quiet_removals (JobDone job receipt) asked volume plain is asks = cc
+quiet_removals (JobFailed job) asked volume plain is asks = cc
+quiet_removals TakeRemove asked volume plain is asks = cc
+quiet_removals (RemoveDone number) asked volume plain is asks = cc
+quiet_removals (RemoveFailed receipt) asked volume plain is asks = cc

@@ -9,12 +9,12 @@ use Rattle.vol_core.specs.declared.reply.EntryRefusal.TheVariants as refusals
 use Rattle.vol_core.specs.declared.reply.Reply.{Reply}
 use Rattle.vol_core.specs.declared.reply.Reply.TheVariants as told
 use Rattle.replay_rig.specs.declared.answer.Answer.{Answer}
-use Rattle.replay_rig.specs.declared.answer.Answer.TheVariants.{Entries, Sectors, Sealed, Put, Done, Counts}
+use Rattle.replay_rig.specs.declared.answer.Answer.TheVariants.{Entries, Sectors, Sealed, Put, Done, Gone, Counts}
 use Rattle.replay_rig.specs.declared.answer.Answer.TheVariants.{BatchFull, EntriesFull, NoRoom, Range, Nothing}
 use Rattle.replay_rig.specs.declared.answer.Answer.TheVariants.{Busy, Fault}
 
--- the answer that says a reply of the plain volume; those to a plan that is given back, to a put that fails, and to removals are
--- no answers
+-- the answer that says a reply of the plain volume; those to a plan that is given back, to a put that fails, and to a removal
+-- that is done or fails are no answers
 abbrev pub SaysReply : PlainReply → Answer → Type 0
 SaysReply (replies.Entered count) answer = answer ≡ Entries count
 SaysReply (replies.Flushed count) answer = answer ≡ Entries count
@@ -24,7 +24,7 @@ SaysReply (replies.Sealed number) answer = answer ≡ Sealed number
 SaysReply (replies.Taken number) answer = answer ≡ Put number
 SaysReply (replies.Done frontier) answer = answer ≡ Done frontier
 SaysReply replies.Returned answer = ⊥
-SaysReply (replies.Removing number) answer = ⊥
+SaysReply (replies.Removing number) answer = answer ≡ Gone number
 SaysReply replies.Removed answer = ⊥
 SaysReply replies.GivenBack answer = ⊥
 SaysReply (replies.Told writes sealed frontier checkpoint) answer = answer ≡ Counts writes sealed frontier
@@ -62,6 +62,10 @@ SaysCounts (told.Done frontier) answer = answer ≡ Done frontier
 SaysCounts (told.NotDone job receipt) answer = answer ≡ Nothing
 SaysCounts told.Returned answer = Unit {0}
 SaysCounts (told.NotReturned job) answer = answer ≡ Nothing
+SaysCounts (told.Removing receipt) answer = Unit {0}
+SaysCounts told.Removed answer = Unit {0}
+SaysCounts told.GivenBack answer = Unit {0}
+SaysCounts (told.NotGivenBack receipt) answer = answer ≡ Nothing
 SaysCounts (told.Told writes sealed frontier checkpoint) answer = answer ≡ Counts writes sealed frontier
 SaysCounts told.Range answer = answer ≡ Range
 SaysCounts told.Nothing answer = answer ≡ Nothing

@@ -1,7 +1,6 @@
 -- Contract: what a script ran on, and the plain volume that it shows.
 use Rattle.std.specs.Prelude.{◌≡◌, ◌==◌, ℕ, ◌+◌, ◌*◌, ◌<◌, ◌≤◌, Bool, true, false, is_some, Some, None, List, [], ◌∷◌}
 use Rattle.std.specs.List.{AllByRecursion}
-use Rattle.lsvd_base.specs.Image.{blank}
 use Rattle.lsvd_names.specs.Names.{numbered_name}
 use Rattle.lsvd_device.specs.Device.{HoldsNow}
 use Rattle.lsvd_device.specs.Medium.{MayLeave}
@@ -10,13 +9,14 @@ use Rattle.object_format.specs.declared.expected.Expected.{Expected}
 use Rattle.object_stream.specs.Replay.{object_name}
 use Rattle.stopped_volume.specs.Device.{CacheOwner, owner_with}
 use Rattle.stopped_volume.specs.Objects.{landed_in}
-use Rattle.stopped_volume.specs.Opening.{IsCheckpointOf}
 use Rattle.stopped_volume.specs.Super.{HasVolume}
 use Rattle.upload_window.specs.declared.object.OpenObject.{OpenObject}
 use Rattle.upload_window.specs.Window.{IsAcknowledged}
 use Rattle.plain_disk.specs.declared.log.PlainCommit.{PlainCommit}
-use Rattle.plain_disk.specs.State.{PlainState, history_length, frontier_of}
+use Rattle.plain_disk.specs.State.{PlainState, OpensBlank, history_length, frontier_of}
+use Rattle.plain_disk.specs.Removals.{has}
 use Rattle.plain_disk.specs.Stops.{recovered_number}
+use Rattle.plain_disk.specs.Found.{SealsCheckpoints, found_in}
 use Rattle.object_recovery.specs.Checkpoints.{expected_of}
 use Rattle.refine_log.specs.Stops.{IsFoundCommit, HasCommit}
 use Rattle.refine_mount.specs.Found.{HasObjects}
@@ -59,14 +59,6 @@ owner_at epoch = owner_with script_uuid epoch
 abbrev pub expected_of_plain : PlainState → Expected
 expected_of_plain plain = expected_of script_uuid plain.geometry
 
--- the volume of a script opens blank, at its first object
-pub record OpensBlank (plain : PlainState) : Type 0 where
-  pub number : plain.number ≡ 1
-  pub end : plain.end ≡ 0
-  pub checkpoint : plain.checkpoint.number ≡ 1
-  pub opening : plain.opening ≡ blank plain.geometry.sectors
-  pub owned : plain.owned ≡ []
-
 -- the first of the objects under way is an open object of which a put was ever begun, and its put is out where it is started
 abbrev pub IsFirstUnderWay : (was_started : Bool) → OpenObject → List PutView → (List PutView → Type 0) → Type 0
 IsFirstUnderWay false object puts Rest = Rest puts
@@ -82,14 +74,24 @@ AreUnderWay (object ∷ objects) puts = IsFirstUnderWay object.was_started objec
 abbrev pub HasBytesOfObject : PlainState → PutView → Type 0
 HasBytesOfObject plain put = IsObjectOf (expected_of_plain plain) plain put.number put.bytes
 
--- the store has the first object, a checkpoint, of the later ones those that are acknowledged, and no others
+-- an object is acknowledged and was not removed
+pub record IsKeptObject (plain : PlainState) (number : ℕ) : Type 0 where
+  pub some : 0 < number
+  pub acknowledged : IsAcknowledged plain.window number
+  pub kept : has plain.removed number ≡ false
+
+-- the store has the objects that are acknowledged, but those that were removed, and no others
 pub record HasStored (plain : PlainState) (objects : Objects) : Type 0 where
-  pub first : IsCheckpointOf (expected_of_plain plain) objects 1 0 (λ k. None)
-  pub acknowledged : (number : ℕ) → 1 < number → IsAcknowledged plain.window number
+  pub there : (number : ℕ) → IsKeptObject plain number
       → (bytes : List ℕ) × (found objects (object_name (expected_of_plain plain) number) ≡ Some bytes)
       × IsObjectOf (expected_of_plain plain) plain number bytes
-  pub none_else : (number : ℕ) → (0 < number → IsAcknowledged plain.window number → ⊥)
+  pub none_else : (number : ℕ) → (IsKeptObject plain number → ⊥)
       → found objects (object_name (expected_of_plain plain) number) ≡ None
+
+-- no removal is out, and what was given out for removal is removed: a line makes a removal whole
+pub record RemovesAtOnce (plain : PlainState) : Type 0 where
+  pub none_out : plain.removal ≡ None
+  pub gone : plain.given_out ≡ plain.removed
 
 -- the numbers of a volume that has answered so many lines: each adds an entry and an object at most, and makes two steps and four
 -- commits at most
@@ -101,7 +103,7 @@ pub record IsYoung (rig : RigState) (plain : PlainState) : Type 0 where
 
 -- The rig shows a plain volume: its volume does, with the pending writes of the plain cache, and commits in the epoch that the
 -- store has as the newest of the volume; the objects under way are the plain volume's, and the store has those that are
--- acknowledged.
+-- acknowledged, but what was removed. The plain volume is followed from its first object on, also over mounts.
 pub record ShowsPlain (rig : RigState) (plain : PlainState) : Type 0 where
   pub shows : Shows rig.volume.volume plain
   pub pending : PendsAs rig.volume.volume plain.cache
@@ -111,11 +113,13 @@ pub record ShowsPlain (rig : RigState) (plain : PlainState) : Type 0 where
   pub begun : epoch ≤ rig.lines
   pub uuid_is : volume_uuid rig.volume.volume ≡ script_uuid
   pub opens : OpensBlank plain
+  pub seals : SealsCheckpoints plain
   pub stopping : rig.is_stopping ≡ is_some plain.cache.left
   pub puts : AreUnderWay plain.window.objects rig.puts
   pub put_objects : AllByRecursion (HasBytesOfObject plain) rig.puts
   pub bytes : AllByRecursion (λ put. HasBytesOf rig.volume.volume put.number put.bytes) rig.puts
   pub stored : HasStored plain rig.objects
+  pub removes : RemovesAtOnce plain
   pub young : IsYoung rig plain
 
 -- ---- stops
@@ -134,7 +138,8 @@ Lands (put ∷ puts) (letter ∷ letters) old new = (middle : Objects) × LandsA
 
 -- Whatever a stop leaves of the device reads as the last commit of the plain volume or as the unfinished one, of this owner,
 -- wherever the objects end that a mount finds, from the frontier on. And whichever objects under way have landed in its store,
--- that has the plain volume's objects up to the one before the first missing number, from the frontier on.
+-- that has the objects of what a mount finds of the plain volume, up to the one before the first missing number, from the
+-- frontier on.
 pub record IsKeptByRig (owner : CacheOwner) (rig : RigState) (plain : PlainState) : Type 0 where
   pub device : HoldsNow (λ now. (left : List ℕ) → MayLeave now left
       → (found : PlainCommit) × IsFoundCommit found plain.cache.log
@@ -142,6 +147,7 @@ pub record IsKeptByRig (owner : CacheOwner) (rig : RigState) (plain : PlainState
       → HasCommit owner plain found (end_of_object number plain) left))
       (volume_disk rig.volume.volume).moments
   pub store : (letters : List ℕ) (objects : Objects) → Lands rig.puts letters rig.objects objects
-      → HasObjects script_uuid plain (recovered_number (landed_in objects (expected_of_plain plain)) plain) objects
+      → HasObjects script_uuid (found_in (landed_in objects (expected_of_plain plain)) plain)
+      (recovered_number (landed_in objects (expected_of_plain plain)) plain) objects
       × (frontier_of plain ≤ recovered_number (landed_in objects (expected_of_plain plain)) plain)
       × (recovered_number (landed_in objects (expected_of_plain plain)) plain ≤ plain.window.last)

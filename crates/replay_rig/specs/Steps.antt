@@ -9,7 +9,7 @@ use Rattle.plain_disk.specs.State.{PlainState, history_length}
 use Rattle.plain_disk.specs.Step.{plain_reply, plain_after}
 use Rattle.plain_disk.specs.Stops.{stopping_after_calls, recovered_number, mounted_kept, mounted_lost}
 use Rattle.vol_core.specs.declared.event.Event.{Event}
-use Rattle.vol_core.specs.declared.event.Event.TheVariants.{Write, Zero, Flush, Seal, Status}
+use Rattle.vol_core.specs.declared.event.Event.TheVariants.{Write, Zero, Flush, Seal, SealCheckpoint, Status}
 use Rattle.vol_core.specs.Events.{Asks}
 use Rattle.vol_core.specs.Volume.{SteppedVolume, with_budget_of}
 use Rattle.vol_core.specs.Shows.{Shows}
@@ -17,7 +17,7 @@ use Rattle.vol_core.specs.View.{volume_disk}
 use Rattle.refine_log.specs.Fuses.{fuse_in}
 use Rattle.plain_disk.specs.Cache.{is_kept}
 use Rattle.transcript.specs.Letters.{landed_by}
-use Rattle.transcript.specs.Answers.{released_by}
+use Rattle.transcript.specs.Answers.{released_by, removed_by}
 use Rattle.replay_rig.specs.declared.answer.Answer.{Answer}
 use Rattle.replay_rig.specs.declared.answer.Answer.TheVariants.{Failed, Mounted}
 use Rattle.replay_rig.specs.Answers.{SaysReply}
@@ -36,6 +36,7 @@ is_counted (Write lba body) = true
 is_counted (Zero lba sectors) = true
 is_counted Flush = true
 is_counted Seal = true
+is_counted SealCheckpoint = true
 is_counted Status = true
 is_counted event = false
 
@@ -50,6 +51,12 @@ pub record AnswersRead (lba sectors : ℕ) (answer : Answer) (old new : RigState
   pub by : (plain : PlainState) → ShowsPlain old plain
       → SaysReply (plain_reply plain (events.Look lba sectors)) answer
       × ShowsPlain new (released_by (plain_reply plain (events.Look lba sectors)) (plain_after (events.Look lba sectors) plain))
+
+-- the same of a removal, which is made where it began: the answer tells the number of the object that is gone
+pub record AnswersRemoval (answer : Answer) (old new : RigState) : Type 0 where
+  pub by : (plain : PlainState) → ShowsPlain old plain
+      → SaysReply (plain_reply plain events.TakeRemove) answer
+      × ShowsPlain new (removed_by (plain_reply plain events.TakeRemove) (plain_after events.TakeRemove plain))
 
 -- the put of an object failed, which the answer tells
 pub record FailsPut (number : ℕ) (answer : Answer) (old new : RigState) : Type 0 where
@@ -78,11 +85,10 @@ IsMountTold landed old mounted answer = answer ≡ Mounted (history_length mount
 -- with its cache, or without it
 pub record MountsKeptRig (fates : List Fate) (letters : List ℕ) (answer : Answer) (old new : RigState) : Type 0 where
   pub by : (plain : PlainState) → ShowsPlain old plain
-      → IsMountTold (landed_by plain.window letters) plain
-      (mounted_kept (landed_by plain.window letters) (map is_kept fates) plain) answer
-      × ShowsPlain new (mounted_kept (landed_by plain.window letters) (map is_kept fates) plain)
+      → IsMountTold (landed_by plain letters) plain (mounted_kept (landed_by plain letters) (map is_kept fates) plain) answer
+      × ShowsPlain new (mounted_kept (landed_by plain letters) (map is_kept fates) plain)
 
 pub record MountsLostRig (letters : List ℕ) (answer : Answer) (old new : RigState) : Type 0 where
   pub by : (plain : PlainState) → ShowsPlain old plain
-      → IsMountTold (landed_by plain.window letters) plain (mounted_lost (landed_by plain.window letters) plain) answer
-      × ShowsPlain new (mounted_lost (landed_by plain.window letters) plain)
+      → IsMountTold (landed_by plain letters) plain (mounted_lost (landed_by plain letters) plain) answer
+      × ShowsPlain new (mounted_lost (landed_by plain letters) plain)

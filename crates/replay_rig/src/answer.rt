@@ -23,6 +23,8 @@ pub enum Answer {
     Done(u64),
     /// The put of this object failed.
     Failed(u64),
+    /// This object was removed.
+    Gone(u64),
     /// The counts: of the entries, the last object that was sealed, and the frontier.
     Counts {
         entries: u64,
@@ -50,7 +52,7 @@ pub enum Answer {
     },
     /// The volume does not take a request for these sectors.
     Range,
-    /// There is nothing to seal or to put.
+    /// There is nothing to seal, to put or to remove.
     Nothing,
     /// No object was sealed: 16 objects are not acknowledged.
     Busy,

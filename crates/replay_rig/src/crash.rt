@@ -2,7 +2,7 @@ ghost use Rattle.std.specs.Prelude.{◌≡◌, ◌+◌, ◌==◌, [], IsTrue, If
 ghost use Rattle.lsvd_base.specs.Limits.{is_within_limits};
 ghost use Rattle.lsvd_names.specs.Names.{numbered_name};
 ghost use Rattle.lsvd_device.specs.Device.{HoldsNow};
-ghost use Rattle.lsvd_objstore.specs.Objects.{IsPut};
+ghost use Rattle.lsvd_objstore.specs.Objects.{IsPut, IsRemoved};
 ghost use Rattle.commit_slot.specs.Slots.{log_of};
 ghost use Rattle.commit_slot.specs.Formatting.{format_cost};
 ghost use Rattle.vol_mount.specs.Costs.{mount_cost};
@@ -223,4 +223,12 @@ pub(crate) fn put_object(
             Err(AllocError)
         }
     }
+}
+
+/// Removes an object that the store gave this receipt for.
+pub(crate) fn remove_object(store: &mut MemStore, receipt: &MemReceipt)
+    ensures { IsRemoved receipt.now.name store.old store.new }
+{
+    // A store in memory fails no call.
+    let _ = store.remove(receipt);
 }

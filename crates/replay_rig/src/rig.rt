@@ -8,7 +8,8 @@ ghost use Rattle.plain_disk.specs.State.{PlainState, created_volume};
 ghost use Rattle.vol_core.specs.Step.{most_of_step};
 ghost use Rattle.vol_core.specs.View.{volume_disk};
 ghost use Rattle.transcript.specs.Letters.{under_way};
-ghost use Rattle.replay_rig.specs.Steps.{AnswersEvent, is_counted, AnswersAsked, AnswersRead, FailsPut};
+ghost use Rattle.replay_rig.specs.Steps.{AnswersEvent, is_counted, AnswersAsked, AnswersRead, AnswersRemoval};
+ghost use Rattle.replay_rig.specs.Steps.{FailsPut};
 ghost use Rattle.read_plan.specs.Plan.{GivesNoOther};
 ghost use Rattle.replay_rig.specs.Puts.{is_put_out, put_of};
 ghost use Rattle.replay_rig.specs.Crash.{IsPutAs};
@@ -18,13 +19,13 @@ ghost use Rattle.replay_rig.specs.Rig.{rig_of, owner_at, ShowsPlain, IsKeptByRig
 use crate::answer::{Answer, answer_of};
 use crate::crash::{
     MountedVolume, ScriptVolume, blank_disk, create_volume, land, mount_again, mount_anew,
-    put_object, stopped_device,
+    put_object, remove_object, stopped_device,
 };
 use crate::puts::Puts;
 use commit_slot::LOG_START;
 use lsvd_base::{Body, Geometry, SECTOR_BYTES};
 use lsvd_device::{Fate, StoppedDisk};
-use lsvd_objstore::{MemReceipt, MemStore};
+use lsvd_objstore::{MemReceipt, MemStore, Receipt};
 use read_plan::Plan;
 use std::alloc::{AllocError, Global};
 use std::marker::Model;
@@ -150,6 +151,36 @@ impl Rig {
         ensures lines { self.new.lines ≤ self.old.lines + 1 }
     {
         self.answer(Event::Seal)
+    }
+
+    /// Seals a checkpoint.
+    pub fn seal_checkpoint(&mut self) -> Result<Answer, AllocError>
+        requires { self.old.lines < 2 ^ 40 }
+        ensures ok { IfOk result (λ answer. AnswersEvent events.SealCheckpoint answer self.old self.new) }
+        ensures lines { self.new.lines ≤ self.old.lines + 1 }
+    {
+        self.answer(Event::SealCheckpoint)
+    }
+
+    /// Removes the lowest object that may be removed from the store.
+    pub fn remove(&mut self) -> Result<Answer, AllocError>
+        requires { self.old.lines < 2 ^ 40 }
+        ensures ok { IfOk result (λ answer. AnswersRemoval answer self.old self.new) }
+        ensures lines { self.new.lines ≤ self.old.lines + 1 }
+    {
+        self.lines += 1;
+        let receipt = match self.volume.step(Event::TakeRemove) {
+            Reply::Removing(receipt) => receipt,
+            reply => {
+                drop(reply);
+                return Ok(Answer::Nothing);
+            }
+        };
+        let number = receipt.name().number;
+        remove_object(&mut self.store, &receipt);
+        drop(receipt);
+        drop(self.volume.step(Event::RemoveDone { number }));
+        Ok(Answer::Gone(number))
     }
 
     /// Begins the put of the lowest ready object.

@@ -16,7 +16,8 @@ use Rattle.replay_script.specs.Grammar.{BeginsAs, CountsAs}
 use Rattle.replay_script.specs.Grammar.{IsUnknown, HasWrongWordCount, IsMisspelt, Spell, SpellNone, AreRefusedAs}
 use Rattle.replay_script.specs.declared.command.Command.{Command}
 use Rattle.replay_script.specs.declared.command.Command.TheVariants.{New, Write, Zero, Read, Flush, Seal, TakeJob, JobDone}
-use Rattle.replay_script.specs.declared.command.Command.TheVariants.{JobFailed, Status, Stop, CrashKeep, CrashLost}
+use Rattle.replay_script.specs.declared.command.Command.TheVariants.{JobFailed, SealCheckpoint, Remove, Status, Stop}
+use Rattle.replay_script.specs.declared.command.Command.TheVariants.{CrashKeep, CrashLost}
 use Rattle.replay_script.specs.declared.error.LineError.TheVariants.{UnknownCommand, WordCount, Form}
 use Rattle.replay_script.proofs.Numbers.{decided, decide_number, decide_byte, hexadecimal_injective}
 
@@ -91,6 +92,8 @@ one_spelling TakeJob TakeJob e fits_a fits_b = refl
 one_spelling (JobDone number) (JobDone number') e fits_a fits_b = ap JobDone (decimal_injective number number' fits_a fits_b (cc))
 one_spelling (JobFailed number) (JobFailed number') e fits_a fits_b =
     ap JobFailed (decimal_injective number number' fits_a fits_b (cc))
+one_spelling SealCheckpoint SealCheckpoint e fits_a fits_b = refl
+one_spelling Remove Remove e fits_a fits_b = refl
 one_spelling Status Status e fits_a fits_b = refl
 one_spelling (Stop calls) (Stop calls') e fits_a fits_b = ap Stop (decimal_injective calls calls' fits_a fits_b (cc))
 one_spelling (CrashKeep device objects) (CrashKeep device' objects') e fits_a fits_b = cc
@@ -277,6 +280,18 @@ decide_status words = elim (decide_alone (codes "i") words) [
   | inr other ↦ inr (λ spell. other spell.0)
 ]
 
+decide_checkpoint : (words : List (List ℕ)) → IsSpelled words ⊎ ¬ Spell words SealCheckpoint
+decide_checkpoint words = elim (decide_alone (codes "c") words) [
+  | inl e ↦ inl (SealCheckpoint, (e, tt))
+  | inr other ↦ inr (λ spell. other spell.0)
+]
+
+decide_remove : (words : List (List ℕ)) → IsSpelled words ⊎ ¬ Spell words Remove
+decide_remove words = elim (decide_alone (codes "k") words) [
+  | inl e ↦ inl (Remove, (e, tt))
+  | inr other ↦ inr (λ spell. other spell.0)
+]
+
 decide_done : (words : List (List ℕ)) → IsSpelled words ⊎ ((number : ℕ) → ¬ Spell words (JobDone number))
 decide_done words = elim (decide_with_number (codes "d") words) [
   | inl found ↦ inl (JobDone found.0, found.1)
@@ -334,6 +349,8 @@ record SpellNoKind (words : List (List ℕ)) : Type 0 where
   no_take : ¬ Spell words TakeJob
   no_done : (number : ℕ) → ¬ Spell words (JobDone number)
   no_failed : (number : ℕ) → ¬ Spell words (JobFailed number)
+  no_checkpoint : ¬ Spell words SealCheckpoint
+  no_remove : ¬ Spell words Remove
   no_status : ¬ Spell words Status
   no_stop : (calls : ℕ) → ¬ Spell words (Stop calls)
   no_crash_keep : (device objects : List ℕ) → ¬ Spell words (CrashKeep device objects)
@@ -350,6 +367,8 @@ no_command words other Seal = other.no_seal
 no_command words other TakeJob = other.no_take
 no_command words other (JobDone number) = other.no_done number
 no_command words other (JobFailed number) = other.no_failed number
+no_command words other SealCheckpoint = other.no_checkpoint
+no_command words other Remove = other.no_remove
 no_command words other Status = other.no_status
 no_command words other (Stop calls) = other.no_stop calls
 no_command words other (CrashKeep device objects) = other.no_crash_keep device objects
@@ -367,6 +386,8 @@ decide_spelling words =
     or_next (decide_take words) (λ no_take.
     or_next (decide_done words) (λ no_done.
     or_next (decide_failed words) (λ no_failed.
+    or_next (decide_checkpoint words) (λ no_checkpoint.
+    or_next (decide_remove words) (λ no_remove.
     or_next (decide_status words) (λ no_status.
     or_next (decide_stop words) (λ no_stop.
     or_next (decide_crash_keep words) (λ no_crash_keep.
@@ -381,11 +402,13 @@ decide_spelling words =
       no_take = no_take;
       no_done = no_done;
       no_failed = no_failed;
+      no_checkpoint = no_checkpoint;
+      no_remove = no_remove;
       no_status = no_status;
       no_stop = no_stop;
       no_crash_keep = no_crash_keep;
       no_crash_lost = no_crash_lost;
-    })))))))))))))))
+    })))))))))))))))))
 
 -- where its numbers make no geometry within the limits, they spell no command
 no_new : (words : List (List ℕ)) (g : Geometry) → words ≡ command_spelling (New g) → SizesFit g
@@ -443,6 +466,8 @@ begins_first word words Seal e = sym (ap first_word e)
 begins_first word words TakeJob e = sym (ap first_word e)
 begins_first word words (JobDone number) e = sym (ap first_word e)
 begins_first word words (JobFailed number) e = sym (ap first_word e)
+begins_first word words SealCheckpoint e = sym (ap first_word e)
+begins_first word words Remove e = sym (ap first_word e)
 begins_first word words Status e = sym (ap first_word e)
 begins_first word words (Stop calls) e = sym (ap first_word e)
 begins_first word words (CrashKeep device objects) e = sym (ap first_word e)
@@ -459,6 +484,8 @@ spelling_begins Seal = refl
 spelling_begins TakeJob = refl
 spelling_begins (JobDone number) = refl
 spelling_begins (JobFailed number) = refl
+spelling_begins SealCheckpoint = refl
+spelling_begins Remove = refl
 spelling_begins Status = refl
 spelling_begins (Stop calls) = refl
 spelling_begins (CrashKeep device objects) = refl
@@ -491,6 +518,8 @@ count_by_name Seal = refl
 count_by_name TakeJob = refl
 count_by_name (JobDone number) = refl
 count_by_name (JobFailed number) = refl
+count_by_name SealCheckpoint = refl
+count_by_name Remove = refl
 count_by_name Status = refl
 count_by_name (Stop calls) = refl
 count_by_name (CrashKeep device objects) = refl
@@ -546,6 +575,8 @@ pub record IsNoName (word : List ℕ) : Type 0 where
   pub no_take : ¬ (word ≡ codes "u")
   pub no_done : ¬ (word ≡ codes "d")
   pub no_failed : ¬ (word ≡ codes "x")
+  pub no_checkpoint : ¬ (word ≡ codes "c")
+  pub no_remove : ¬ (word ≡ codes "k")
   pub no_status : ¬ (word ≡ codes "i")
   pub no_stop : ¬ (word ≡ codes "stop")
   pub no_crash : ¬ (word ≡ codes "crash")
@@ -562,6 +593,8 @@ no_name word words other Seal e = other.no_seal (begins_first word words Seal e)
 no_name word words other TakeJob e = other.no_take (begins_first word words TakeJob e)
 no_name word words other (JobDone number) e = other.no_done (begins_first word words (JobDone number) e)
 no_name word words other (JobFailed number) e = other.no_failed (begins_first word words (JobFailed number) e)
+no_name word words other SealCheckpoint e = other.no_checkpoint (begins_first word words SealCheckpoint e)
+no_name word words other Remove e = other.no_remove (begins_first word words Remove e)
 no_name word words other Status e = other.no_status (begins_first word words Status e)
 no_name word words other (Stop calls) e = other.no_stop (begins_first word words (Stop calls) e)
 no_name word words other (CrashKeep device objects) e = other.no_crash (begins_first word words (CrashKeep device objects) e)
@@ -653,6 +686,8 @@ decide_name word words =
     or_next (decide_first (codes "u") word words TakeJob refl) (λ no_take.
     or_next (decide_first (codes "d") word words (JobDone 0) refl) (λ no_done.
     or_next (decide_first (codes "x") word words (JobFailed 0) refl) (λ no_failed.
+    or_next (decide_first (codes "c") word words SealCheckpoint refl) (λ no_checkpoint.
+    or_next (decide_first (codes "k") word words Remove refl) (λ no_remove.
     or_next (decide_first (codes "i") word words Status refl) (λ no_status.
     or_next (decide_first (codes "stop") word words (Stop 0) refl) (λ no_stop.
     elim (decided (bytes_eq word (codes "crash")) (bytes_eq-Decides word (codes "crash"))) [
@@ -667,11 +702,13 @@ decide_name word words =
         no_take = no_take;
         no_done = no_done;
         no_failed = no_failed;
+        no_checkpoint = no_checkpoint;
+        no_remove = no_remove;
         no_status = no_status;
         no_stop = no_stop;
         no_crash = no_crash;
       }))
-    ])))))))))))
+    ])))))))))))))
 
 decide_words : (words : List (List ℕ)) → (words ≡ [] → ⊥) → IsJudged words
 decide_words [] some = absurd (some refl)

@@ -31,6 +31,10 @@ pub enum Command {
     JobDone { number: u64 },
     /// `x N`: the put of the object N fails.
     JobFailed { number: u64 },
+    /// `c`: seals a checkpoint.
+    SealCheckpoint,
+    /// `k`: removes the lowest object that may be removed.
+    Remove,
     /// `i`: asks for the counts.
     Status,
     /// `stop N`: lets the device pass N calls more, and fail each later one.
@@ -71,6 +75,8 @@ enum Name {
     TakeJob,
     JobDone,
     JobFailed,
+    SealCheckpoint,
+    Remove,
     Status,
     Stop,
     CrashKeep,
@@ -125,6 +131,10 @@ fn name_from(first: &[u8], rest: &[&[u8]]) -> Option<Name>
         Some(Name::JobDone)
     } else if is_word(first, b"x") {
         Some(Name::JobFailed)
+    } else if is_word(first, b"c") {
+        Some(Name::SealCheckpoint)
+    } else if is_word(first, b"k") {
+        Some(Name::Remove)
     } else if is_word(first, b"i") {
         Some(Name::Status)
     } else if is_word(first, b"stop") {
@@ -161,7 +171,8 @@ fn word_count(name: Name) -> usize
     ensures { result ≡ word_count_of name }
 {
     match name {
-        Name::Flush | Name::Seal | Name::TakeJob | Name::Status => 1,
+        Name::Flush | Name::Seal | Name::TakeJob => 1,
+        Name::SealCheckpoint | Name::Remove | Name::Status => 1,
         Name::JobDone | Name::JobFailed | Name::Stop => 2,
         Name::Zero | Name::Read => 3,
         Name::Write | Name::CrashKeep | Name::CrashLost => 4,
@@ -186,6 +197,8 @@ fn form_of(alloc: Global, name: Name, words: &[&[u8]]) -> Result<Option<Command>
         Name::TakeJob => Some(Command::TakeJob),
         Name::JobDone => job_done_of(words[1]),
         Name::JobFailed => job_failed_of(words[1]),
+        Name::SealCheckpoint => Some(Command::SealCheckpoint),
+        Name::Remove => Some(Command::Remove),
         Name::Status => Some(Command::Status),
         Name::Stop => stop_of(words[1]),
         Name::CrashKeep => Some(crash_keep_of(alloc, words[2], words[3])?),

@@ -3,7 +3,7 @@ ghost use Rattle.std.specs.Prelude.{◌∷◌, ◌++◌};
 ghost use Rattle.lsvd_fault.specs.Faults.{Counts};
 ghost use Rattle.lsvd_names.specs.declared.name.ObjName.{ObjName};
 ghost use Rattle.lsvd_names.specs.Names.{super_name};
-ghost use Rattle.lsvd_objstore.specs.Objects.{found};
+ghost use Rattle.lsvd_objstore.specs.Objects.{found, AreNamesOf, Lists};
 ghost use Rattle.lsvd_objstore.specs.Store.{StoreState, ReceiptState, OnlyCounts, has_failed};
 ghost use Rattle.super_format.specs.declared.epoch.Epoch.{Epoch as EpochValue};
 ghost use Rattle.super_format.specs.Epoch.{IsEpoch};
@@ -19,7 +19,7 @@ ghost use Rattle.super_recovery.specs.Found.{IsWhyVolumeRefused};
 use crate::error::SuperError;
 use crate::reading::{Front, read_front};
 use lsvd_names::{NameKind, ObjName, a_uuid_has_sixteen_bytes};
-use lsvd_objstore::{Receipt, Store, StoreError};
+use lsvd_objstore::{Names, Receipt, Store, StoreError};
 use refusals::BadSuper;
 use std::alloc::Global;
 use super_format::{Epoch, Super, SuperReadError};
@@ -32,10 +32,12 @@ pub struct FoundVolume {
     pub volume: Super,
     /// The number of its newest epoch.
     pub epoch: u64,
+    /// The names of all objects of it that the store has.
+    pub names: Names,
 }
 
-/// Finds the volume with this uuid in a store: its super object, and the greatest number of its epochs. The
-/// store is only read.
+/// Finds the volume with this uuid in a store: its super object, the greatest number of its epochs, and the
+/// names of its objects. The store is only read, and listed once.
 ///
 /// An error comes where, in the order of the tests:
 ///
@@ -56,6 +58,9 @@ pub fn find_volume<S: Store>(
     ensures found { TellsBytes S.Receipt.state
         → IfOk result (λ found. IfSome (S.state store.old).objects (λ objects.
         IsFound uuid objects found)) }
+    ensures names { IfOk result (λ found. AreNamesOf uuid found.names) }
+    ensures listed { IfOk result (λ found. IfSome (S.state store.old).objects (λ objects.
+        Lists uuid objects found.names)) }
     ensures refused { TellsBytes S.Receipt.state
         → IfErr result (λ error. IfSome (S.state store.old).objects (λ objects.
         IsVolumeRefused uuid objects error)) }
@@ -63,8 +68,12 @@ pub fn find_volume<S: Store>(
     ensures faults { Counts (ends_by_fault result) (S.state store.old).faults (S.state store.new).faults }
 {
     let volume = find_super(alloc, store, uuid)?;
-    let epoch = newest_epoch(alloc, store, uuid)?;
-    Ok(FoundVolume { volume, epoch })
+    let (epoch, names) = newest_epoch(alloc, store, uuid)?;
+    Ok(FoundVolume {
+        volume,
+        epoch,
+        names,
+    })
 }
 
 /// Whether a store has a super object of the volume with this uuid, whatever its bytes are. The store is only
@@ -117,10 +126,17 @@ fn super_in(alloc: Global, front: &Front, uuid: Uuid) -> Result<Super, SuperRead
     Super::read(alloc, bytes, uuid)
 }
 
-// The greatest number of an epoch of a volume.
-fn newest_epoch<S: Store>(alloc: Global, store: &mut S, uuid: Uuid) -> Result<u64, SuperError>
+// The greatest number of an epoch of a volume, and the names of all objects of the volume.
+fn newest_epoch<S: Store>(
+    alloc: Global,
+    store: &mut S,
+    uuid: Uuid,
+) -> Result<(u64, Names), SuperError>
     ensures newest { TellsBytes S.Receipt.state
-        → IfOk result (λ number. IfSome (S.state store.old).objects (HasNewestEpoch uuid number)) }
+        → IfOk result (λ newest. IfSome (S.state store.old).objects (HasNewestEpoch uuid newest.0)) }
+    ensures names { IfOk result (λ newest. AreNamesOf uuid newest.1) }
+    ensures listed { IfOk result (λ newest. IfSome (S.state store.old).objects (λ objects.
+        Lists uuid objects newest.1)) }
     ensures why { TellsBytes S.Receipt.state
         → IfErr result (λ error. IfSome (S.state store.old).objects (λ objects.
         IsWhyNoEpoch uuid objects error)) }
@@ -139,7 +155,7 @@ fn newest_epoch<S: Store>(alloc: Global, store: &mut S, uuid: Uuid) -> Result<u6
             reason: BadSuper::BadEpoch { number },
         });
     }
-    Ok(number)
+    Ok((number, names))
 }
 
 // The greatest number of an epoch among names. None is where no name is that of an epoch.

@@ -11,7 +11,8 @@ use Rattle.plain_disk.specs.declared.event.PlainReply.TheVariants.{Returned, Rem
 use Rattle.plain_disk.specs.declared.event.PlainReply.TheVariants.{EntriesFull, NoRoom, Range, Nothing, Busy, Fault}
 use Rattle.replay_script.specs.declared.command.Command.{Command}
 use Rattle.replay_script.specs.declared.command.Command.TheVariants.{New, Write, Zero, Read, Flush, Seal, TakeJob, JobDone}
-use Rattle.replay_script.specs.declared.command.Command.TheVariants.{JobFailed, Status, Stop, CrashKeep, CrashLost}
+use Rattle.replay_script.specs.declared.command.Command.TheVariants.{JobFailed, SealCheckpoint, Remove, Status, Stop}
+use Rattle.replay_script.specs.declared.command.Command.TheVariants.{CrashKeep, CrashLost}
 use Rattle.replay_script.specs.Grammar.{lines_of}
 use Rattle.replay_script.proofs.Decide.{one_command, unknown_unspelled, miscounted_unspelled, misspelt_unspelled}
 use Rattle.replay_script.proofs.Decide.{unknown_or_miscounted, unknown_or_misspelt, miscounted_or_misspelt}
@@ -32,7 +33,7 @@ one_telling (Sealed number) a b s t = s ∙ sym t
 one_telling (Taken number) a b s t = s ∙ sym t
 one_telling (Done frontier) a b s t = s ∙ sym t
 one_telling Returned a b s t = absurd s
-one_telling (Removing number) a b s t = absurd s
+one_telling (Removing number) a b s t = s ∙ sym t
 one_telling Removed a b s t = absurd s
 one_telling GivenBack a b s t = absurd s
 one_telling (Told writes sealed frontier checkpoint) a b s t = s ∙ sym t
@@ -66,6 +67,8 @@ one_answer None Seal a b p q s t = absurd s
 one_answer None TakeJob a b p q s t = absurd s
 one_answer None (JobDone number) a b p q s t = absurd s
 one_answer None (JobFailed number) a b p q s t = absurd s
+one_answer None SealCheckpoint a b p q s t = absurd s
+one_answer None Remove a b p q s t = absurd s
 one_answer None Status a b p q s t = absurd s
 one_answer None (Stop calls) a b p q s t = absurd s
 one_answer None (CrashKeep device objects) a b p q s t = absurd s
@@ -81,6 +84,8 @@ one_answer (Some plain) Seal a b p q s t = one_step plain events.Seal a b p q s 
 one_answer (Some plain) TakeJob a b p q s t = one_step plain events.TakeJob a b p q s t
 one_answer (Some plain) (JobDone number) a b p q s t = one_step plain (events.JobDone (Some number)) a b p q s.1 t.1
 one_answer (Some plain) (JobFailed number) a b p q s t = (s.1 ∙ sym t.1, s.2 ∙ sym t.2)
+one_answer (Some plain) SealCheckpoint a b p q s t = one_step plain events.SealCheckpoint a b p q s t
+one_answer (Some plain) Remove a b p q s t = (one_telling (plain_reply plain events.TakeRemove) a b s.0 t.0, s.1 ∙ sym t.1)
 one_answer (Some plain) Status a b p q s t = one_step plain events.Status a b p q s t
 one_answer (Some plain) (Stop calls) a b p q s t = (s.1 ∙ sym t.1, s.2 ∙ sym t.2)
 one_answer (Some plain) (CrashKeep device objects) a b p q s t = (s.1.0 ∙ sym t.1.0, s.1.1 ∙ sym t.1.1)
@@ -105,6 +110,8 @@ answered_allowed None Seal text next s = s
 answered_allowed None TakeJob text next s = s
 answered_allowed None (JobDone number) text next s = s
 answered_allowed None (JobFailed number) text next s = s
+answered_allowed None SealCheckpoint text next s = s
+answered_allowed None Remove text next s = s
 answered_allowed None Status text next s = s
 answered_allowed None (Stop calls) text next s = s
 answered_allowed None (CrashKeep device objects) text next s = s
@@ -118,6 +125,8 @@ answered_allowed (Some plain) Seal text next s = tt
 answered_allowed (Some plain) TakeJob text next s = tt
 answered_allowed (Some plain) (JobDone number) text next s = s.0
 answered_allowed (Some plain) (JobFailed number) text next s = s.0
+answered_allowed (Some plain) SealCheckpoint text next s = tt
+answered_allowed (Some plain) Remove text next s = tt
 answered_allowed (Some plain) Status text next s = tt
 answered_allowed (Some plain) (Stop calls) text next s = s.0
 answered_allowed (Some plain) (CrashKeep device objects) text next s = tt
@@ -135,6 +144,8 @@ answered_fits (Some plain) Seal text next s = tt
 answered_fits (Some plain) TakeJob text next s = tt
 answered_fits (Some plain) (JobDone number) text next s = tt
 answered_fits (Some plain) (JobFailed number) text next s = tt
+answered_fits (Some plain) SealCheckpoint text next s = tt
+answered_fits (Some plain) Remove text next s = tt
 answered_fits (Some plain) Status text next s = tt
 answered_fits (Some plain) (Stop calls) text next s = tt
 answered_fits (Some plain) (CrashKeep device objects) text next s = s.0

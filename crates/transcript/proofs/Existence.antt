@@ -11,13 +11,15 @@ use Rattle.plain_disk.specs.declared.event.PlainEvent.{PlainEvent}
 use Rattle.plain_disk.specs.declared.event.PlainEvent.TheVariants as events
 use Rattle.replay_script.specs.declared.command.Command.{Command}
 use Rattle.replay_script.specs.declared.command.Command.TheVariants.{New, Write, Zero, Read, Flush, Seal, TakeJob, JobDone}
-use Rattle.replay_script.specs.declared.command.Command.TheVariants.{JobFailed, Status, Stop, CrashKeep, CrashLost}
+use Rattle.replay_script.specs.declared.command.Command.TheVariants.{JobFailed, SealCheckpoint, Remove, Status, Stop}
+use Rattle.replay_script.specs.declared.command.Command.TheVariants.{CrashKeep, CrashLost}
 use Rattle.replay_script.specs.Grammar.{lines_of, SpellsCommand, IsUnknown, HasWrongWordCount, IsMisspelt}
 use Rattle.replay_script.proofs.Decide.{judge_line}
 use Rattle.transcript.specs.declared.reason.LineReason.{LineReason}
 use Rattle.transcript.specs.declared.reason.LineReason.TheVariants.{UnknownCommand, WordCount, Form, NotAllowed, Letters, TooLong}
 use Rattle.transcript.specs.Letters.{is_dash, fits_writes, kept_by, under_way, fits_objects, landed_by}
-use Rattle.transcript.specs.Answers.{State, AnswersStep, AnswersLook, released_by, text_of_mount, IsAllowed, FitsLetters, Answers}
+use Rattle.transcript.specs.Answers.{State, AnswersStep, AnswersLook, AnswersRemoval, released_by, removed_by}
+use Rattle.transcript.specs.Answers.{text_of_mount, IsAllowed, FitsLetters, Answers}
 use Rattle.transcript.specs.Transcript.{Ending, AllAnswered, Stopped, IsBad, IsAnswered, Transcript, line_after, IsTranscript}
 use Rattle.transcript.specs.Transcript.{IsFrontOfTranscript}
 use Rattle.transcript.proofs.Determined.{StopsAt}
@@ -42,6 +44,12 @@ some_read plain lba sectors =
     let reply = plain_reply plain (events.Look lba sectors) in
     let told = some_telling reply (line_reply plain (events.Look lba sectors) tt) in
     (told.0, Some (released_by reply (plain_after (events.Look lba sectors) plain)), (told.1, refl))
+
+some_removal : (plain : PlainState) → (text : List ℕ) × (next : State) × AnswersRemoval plain text next
+some_removal plain =
+    let reply = plain_reply plain events.TakeRemove in
+    let told = some_telling reply (line_reply plain events.TakeRemove tt) in
+    (told.0, Some (removed_by reply (plain_after events.TakeRemove plain)), (told.1, refl))
 
 -- a put is done, where it was begun
 done_answer : (plain : PlainState) (number : ℕ) (b : Bool) → is_started number plain.window.objects ≡ b
@@ -68,7 +76,7 @@ keep_answer : (plain : PlainState) (device objects : List ℕ) (a b : Bool)
     → fits_writes (length plain.cache.pending) device ≡ a → fits_objects (length (under_way plain.window)) objects ≡ b
     → HasAnswer (Some plain) (CrashKeep device objects) ⊎ IsUnfitAtAll (Some plain) (CrashKeep device objects)
 keep_answer plain device objects true true fit also =
-    let landed = landed_by plain.window objects in
+    let landed = landed_by plain objects in
     let mounted : PlainState = mounted_kept landed (kept_by (length plain.cache.pending) device) plain in
     inl (text_of_mount (history_length mounted) (recovered_number landed plain), Some mounted, ((fit, also), (refl, refl)))
 keep_answer plain device objects true false fit unfit =
@@ -80,7 +88,7 @@ lost_answer : (plain : PlainState) (device objects : List ℕ) (a b : Bool)
     → is_dash device ≡ a → fits_objects (length (under_way plain.window)) objects ≡ b
     → HasAnswer (Some plain) (CrashLost device objects) ⊎ IsUnfitAtAll (Some plain) (CrashLost device objects)
 lost_answer plain device objects true true fit also =
-    let landed = landed_by plain.window objects in
+    let landed = landed_by plain objects in
     let mounted : PlainState = mounted_lost landed plain in
     inl (text_of_mount (history_length mounted) (recovered_number landed plain), Some mounted, ((fit, also), (refl, refl)))
 lost_answer plain device objects true false fit unfit =
@@ -99,6 +107,8 @@ some_answer None Seal = inr (inl (λ h. h))
 some_answer None TakeJob = inr (inl (λ h. h))
 some_answer None (JobDone number) = inr (inl (λ h. h))
 some_answer None (JobFailed number) = inr (inl (λ h. h))
+some_answer None SealCheckpoint = inr (inl (λ h. h))
+some_answer None Remove = inr (inl (λ h. h))
 some_answer None Status = inr (inl (λ h. h))
 some_answer None (Stop calls) = inr (inl (λ h. h))
 some_answer None (CrashKeep device objects) = inr (inl (λ h. h))
@@ -112,6 +122,8 @@ some_answer (Some plain) Seal = inl (some_step plain events.Seal tt)
 some_answer (Some plain) TakeJob = inl (some_step plain events.TakeJob tt)
 some_answer (Some plain) (JobDone number) = done_answer plain number (is_started number plain.window.objects) refl
 some_answer (Some plain) (JobFailed number) = failed_answer plain number (is_started number plain.window.objects) refl
+some_answer (Some plain) SealCheckpoint = inl (some_step plain events.SealCheckpoint tt)
+some_answer (Some plain) Remove = inl (some_removal plain)
 some_answer (Some plain) Status = inl (some_step plain events.Status tt)
 some_answer (Some plain) (Stop calls) = stop_answer plain calls plain.cache.left refl
 some_answer (Some plain) (CrashKeep device objects) =

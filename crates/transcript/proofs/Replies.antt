@@ -23,11 +23,13 @@ use Rattle.plain_disk.specs.Entries.{reply_of_full, batch_refusal, has_room_for,
 use Rattle.plain_disk.specs.Entries.{enter_reply}
 use Rattle.plain_disk.specs.Reads.{passes_look}
 use Rattle.plain_disk.specs.Objects.{is_busy, has_unsealed, reply_of_taken, is_under_way}
+use Rattle.plain_disk.specs.Removals.{reply_of_removal, to_remove}
 use Rattle.plain_disk.specs.Step.{plain_reply}
 use Rattle.replay_script.proofs.Runs.{some_run_text}
 use Rattle.transcript.specs.Answers.{TellsReply}
 
--- a reply that a line may be answered with: not those to a plan that is given back, to a put that failed, and to removals
+-- a reply that a line may be answered with: not those to a plan that is given back, to a put that failed, and to a removal that
+-- ends
 abbrev pub IsLineReply : PlainReply → Type 0
 IsLineReply (Entered count) = Unit {0}
 IsLineReply (Flushed count) = Unit {0}
@@ -37,7 +39,7 @@ IsLineReply (Sealed number) = Unit {0}
 IsLineReply (Taken number) = Unit {0}
 IsLineReply (Done frontier) = Unit {0}
 IsLineReply Returned = ⊥
-IsLineReply (Removing number) = ⊥
+IsLineReply (Removing number) = Unit {0}
 IsLineReply Removed = ⊥
 IsLineReply GivenBack = ⊥
 IsLineReply (Told writes sealed frontier checkpoint) = Unit {0}
@@ -59,7 +61,7 @@ some_telling (Sealed number) is = (codes "sealed " ++ decimal number, refl)
 some_telling (Taken number) is = (codes "put " ++ decimal number, refl)
 some_telling (Done frontier) is = (codes "done " ++ decimal frontier, refl)
 some_telling Returned is = absurd is
-some_telling (Removing number) is = absurd is
+some_telling (Removing number) is = (codes "gone " ++ decimal number, refl)
 some_telling Removed is = absurd is
 some_telling GivenBack is = absurd is
 some_telling (Told writes sealed frontier checkpoint) is =
@@ -110,7 +112,12 @@ of_taken : (lowest : Option ℕ) → IsLineReply (reply_of_taken lowest)
 of_taken None = tt
 of_taken (Some number) = tt
 
--- a line makes no event that gives a plan back, or tells of a put that failed, and none of checkpoints and removals
+of_removal : (out lowest : Option ℕ) → IsLineReply (reply_of_removal out lowest)
+of_removal None None = tt
+of_removal None (Some number) = tt
+of_removal (Some other) lowest = tt
+
+-- a line is answered by the reply to its event, unless that gives a plan back, ends a removal, or tells of a put that failed
 abbrev pub IsLineEvent : PlainEvent → Type 0
 IsLineEvent (events.Write lba body) = Unit {0}
 IsLineEvent (events.Zero lba sectors) = Unit {0}
@@ -121,8 +128,8 @@ IsLineEvent events.Seal = Unit {0}
 IsLineEvent events.TakeJob = Unit {0}
 IsLineEvent (events.JobDone job) = Unit {0}
 IsLineEvent (events.JobFailed job) = ⊥
-IsLineEvent events.SealCheckpoint = ⊥
-IsLineEvent events.TakeRemove = ⊥
+IsLineEvent events.SealCheckpoint = Unit {0}
+IsLineEvent events.TakeRemove = Unit {0}
 IsLineEvent (events.RemoveDone number) = ⊥
 IsLineEvent (events.RemoveFailed number) = ⊥
 IsLineEvent events.Status = Unit {0}
@@ -139,8 +146,8 @@ line_reply plain events.Seal is = either (has_unsealed plain) _ _ (either (is_bu
 line_reply plain events.TakeJob is = of_taken (lowest_ready plain.window.objects)
 line_reply plain (events.JobDone job) is = either (is_under_way job plain.window) _ _ tt tt
 line_reply plain (events.JobFailed job) is = absurd is
-line_reply plain events.SealCheckpoint is = absurd is
-line_reply plain events.TakeRemove is = absurd is
+line_reply plain events.SealCheckpoint is = either (is_busy plain) _ _ tt tt
+line_reply plain events.TakeRemove is = of_removal plain.removal (to_remove plain)
 line_reply plain (events.RemoveDone number) is = absurd is
 line_reply plain (events.RemoveFailed number) is = absurd is
 line_reply plain events.Status is = tt

@@ -22,7 +22,8 @@ State = Option PlainState
 
 -- ---- events
 
--- the text that tells a reply of the plain volume; a line makes no event that answers the other ones
+-- The text that tells a reply of the plain volume; those that answer no line have none. A removal that began is told as made,
+-- since its line makes it.
 abbrev pub TellsReply : PlainReply → List ℕ → Type 0
 TellsReply (Entered count) text = text ≡ codes "ok " ++ decimal count
 TellsReply (Flushed count) text = text ≡ codes "ok " ++ decimal count
@@ -32,7 +33,7 @@ TellsReply (Sealed number) text = text ≡ codes "sealed " ++ decimal number
 TellsReply (Taken number) text = text ≡ codes "put " ++ decimal number
 TellsReply (Done frontier) text = text ≡ codes "done " ++ decimal frontier
 TellsReply Returned text = ⊥
-TellsReply (Removing number) text = ⊥
+TellsReply (Removing number) text = text ≡ codes "gone " ++ decimal number
 TellsReply Removed text = ⊥
 TellsReply GivenBack text = ⊥
 TellsReply (Told writes sealed frontier checkpoint) text =
@@ -59,6 +60,16 @@ AnswersLook plain lba sectors text next =
     TellsReply (plain_reply plain (events.Look lba sectors)) text
     × (next ≡ Some (released_by (plain_reply plain (events.Look lba sectors)) (plain_after (events.Look lba sectors) plain)))
 
+-- a removal that began is made
+abbrev pub removed_by : PlainReply → PlainState → PlainState
+removed_by (Removing number) plain = plain_after (events.RemoveDone number) plain
+removed_by reply plain = plain
+
+abbrev pub AnswersRemoval : PlainState → List ℕ → State → Type 0
+AnswersRemoval plain text next =
+    TellsReply (plain_reply plain events.TakeRemove) text
+    × (next ≡ Some (removed_by (plain_reply plain events.TakeRemove) (plain_after events.TakeRemove plain)))
+
 -- ---- stops
 
 -- the letters fit the volume: the first word the writes that were not synced, and the second one the objects under way
@@ -81,12 +92,11 @@ Mounts landed old mounted text next =
 
 abbrev pub AnswersKeptMount : PlainState → (device objects : List ℕ) → List ℕ → State → Type 0
 AnswersKeptMount plain device objects =
-    Mounts (landed_by plain.window objects) plain
-    (mounted_kept (landed_by plain.window objects) (kept_by (length plain.cache.pending) device) plain)
+    Mounts (landed_by plain objects) plain
+    (mounted_kept (landed_by plain objects) (kept_by (length plain.cache.pending) device) plain)
 
 abbrev pub AnswersLostMount : PlainState → (objects : List ℕ) → List ℕ → State → Type 0
-AnswersLostMount plain objects =
-    Mounts (landed_by plain.window objects) plain (mounted_lost (landed_by plain.window objects) plain)
+AnswersLostMount plain objects = Mounts (landed_by plain objects) plain (mounted_lost (landed_by plain objects) plain)
 
 -- ---- commands
 
@@ -102,6 +112,8 @@ AllowsCommand plain commands.Seal = Unit {0}
 AllowsCommand plain commands.TakeJob = Unit {0}
 AllowsCommand plain (commands.JobDone number) = IsTrue (is_started number plain.window.objects)
 AllowsCommand plain (commands.JobFailed number) = IsTrue (is_started number plain.window.objects)
+AllowsCommand plain commands.SealCheckpoint = Unit {0}
+AllowsCommand plain commands.Remove = Unit {0}
 AllowsCommand plain commands.Status = Unit {0}
 AllowsCommand plain (commands.Stop calls) = plain.cache.left ≡ None
 AllowsCommand plain (commands.CrashKeep device objects) = Unit {0}
@@ -118,6 +130,8 @@ IsNew commands.Seal = ⊥
 IsNew commands.TakeJob = ⊥
 IsNew (commands.JobDone number) = ⊥
 IsNew (commands.JobFailed number) = ⊥
+IsNew commands.SealCheckpoint = ⊥
+IsNew commands.Remove = ⊥
 IsNew commands.Status = ⊥
 IsNew (commands.Stop calls) = ⊥
 IsNew (commands.CrashKeep device objects) = ⊥
@@ -138,6 +152,8 @@ FitsVolume plain commands.Seal = Unit {0}
 FitsVolume plain commands.TakeJob = Unit {0}
 FitsVolume plain (commands.JobDone number) = Unit {0}
 FitsVolume plain (commands.JobFailed number) = Unit {0}
+FitsVolume plain commands.SealCheckpoint = Unit {0}
+FitsVolume plain commands.Remove = Unit {0}
 FitsVolume plain commands.Status = Unit {0}
 FitsVolume plain (commands.Stop calls) = Unit {0}
 FitsVolume plain (commands.CrashKeep device objects) = FitKept plain device objects
@@ -160,6 +176,8 @@ AnswersCreation commands.Seal text next = ⊥
 AnswersCreation commands.TakeJob text next = ⊥
 AnswersCreation (commands.JobDone number) text next = ⊥
 AnswersCreation (commands.JobFailed number) text next = ⊥
+AnswersCreation commands.SealCheckpoint text next = ⊥
+AnswersCreation commands.Remove text next = ⊥
 AnswersCreation commands.Status text next = ⊥
 AnswersCreation (commands.Stop calls) text next = ⊥
 AnswersCreation (commands.CrashKeep device objects) text next = ⊥
@@ -180,6 +198,8 @@ AnswersOn plain (commands.JobDone number) text next =
 AnswersOn plain (commands.JobFailed number) text next =
     IsTrue (is_started number plain.window.objects)
     × (text ≡ codes "failed " ++ decimal number) × (next ≡ Some (plain_after (events.JobFailed (Some number)) plain))
+AnswersOn plain commands.SealCheckpoint text next = AnswersStep plain events.SealCheckpoint text next
+AnswersOn plain commands.Remove text next = AnswersRemoval plain text next
 AnswersOn plain commands.Status text next = AnswersStep plain events.Status text next
 AnswersOn plain (commands.Stop calls) text next =
     (plain.cache.left ≡ None) × (text ≡ codes "stop " ++ decimal calls) × (next ≡ Some (stopping_after_calls calls plain))

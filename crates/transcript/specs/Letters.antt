@@ -8,6 +8,8 @@ use Rattle.lsvd_device.specs.declared.fate.Fate.{Fate}
 use Rattle.lsvd_device.specs.declared.fate.Fate.TheVariants.{Kept, Old, Zeros, Torn}
 use Rattle.object_stream.specs.Landed.{Numbers}
 use Rattle.plain_disk.specs.Cache.{is_kept}
+use Rattle.plain_disk.specs.State.{PlainState}
+use Rattle.plain_disk.specs.Removals.{has}
 use Rattle.upload_window.specs.Window.{WindowState, has_number}
 
 -- the word that keeps all writes, and lands no object
@@ -56,7 +58,9 @@ has_landed [] letters number = false
 has_landed (first ∷ rest) [] number = false
 has_landed (first ∷ rest) (letter ∷ letters) number = (first == number && letter == 121) || has_landed rest letters number
 
--- which objects have landed: those that are acknowledged, and of those under way the ones with that letter
-abbrev pub landed_by : WindowState → List ℕ → Numbers
-landed_by window word number =
-    (nat_le number window.last && not (list_any (has_number number) window.objects)) || has_landed (under_way window) word number
+-- which objects have landed and are there: those that are acknowledged and were not removed, and of those under way the ones with
+-- that letter
+abbrev pub landed_by : PlainState → List ℕ → Numbers
+landed_by plain word number =
+    (nat_le number plain.window.last && not (list_any (has_number number) plain.window.objects) && not (has plain.removed number))
+    || has_landed (under_way plain.window) word number

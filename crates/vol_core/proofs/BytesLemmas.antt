@@ -9,9 +9,10 @@ use Rattle.upload_window.specs.declared.object.OpenObject.{OpenObject}
 use Rattle.upload_window.specs.Window.{has_number, is_started}
 use Rattle.cache_log.specs.Log.{LogState}
 use Rattle.object_uploads.specs.State.{JobState, SealedState}
-use Rattle.object_uploads.specs.Queue.{HasBytesAt, is_checkpoint, with_at, with_spare, with_receipt}
+use Rattle.object_uploads.specs.declared.rows.SealedRows.{SealedRows}
+use Rattle.object_uploads.specs.Queue.{HasBytesAt, is_checkpoint, just_sealed, with_at, with_spare, with_receipt}
 use Rattle.object_uploads.specs.Order.{IsOpenFirst, AreOpen, IsUploads}
-use Rattle.object_uploads.specs.Changes.{IsPutDone}
+use Rattle.object_uploads.specs.Changes.{IsSealedNext, IsPutDone}
 use Rattle.obj_log.specs.State.{ObjLogState}
 use Rattle.obj_log.specs.Changes.{IsSame}
 use Rattle.refine_objects.proofs.FrontierLemmas.{open_after_done}
@@ -21,7 +22,7 @@ use Rattle.vol_core.specs.declared.reply.Reply.{Reply}
 use Rattle.vol_core.specs.declared.reply.Reply.TheVariants as told
 use Rattle.vol_core.specs.Volume.{VolumeState}
 use Rattle.vol_core.specs.Step.{KeepsBytes}
-use Rattle.vol_core.specs.Calls.{Seals, TakesLowestReady, Finishes, Returns, IsRefusedEntry, Enters}
+use Rattle.vol_core.specs.Calls.{Seals, SealsCheckpoint, TakesLowestReady, Finishes, Returns, IsRefusedEntry, Enters}
 use Rattle.vol_core.proofs.StepLemmas.{with_objects}
 use Rattle.vol_core.proofs.EnterSteps.{with_both}
 
@@ -131,18 +132,28 @@ module _ (old : VolumeState) (objects : ObjLogState) where
       (sym frontier) changed in
       subst (λ list. HasBytesAt (number - (objects.uploads.queue.frontier + 1)) list bytes) (sym sealed) moved
 
+  -- one more object comes last
+  sealed_bytes : (bytes : List ℕ) (rows : SealedRows) (end : ℕ) → IsSealedNext bytes rows end old.objects.uploads objects.uploads
+      → KeepsBytes old now
+  sealed_bytes bytes rows end next number own before has after =
+      let index = number - (old.objects.uploads.queue.frontier + 1) in
+      let more = bytes_of_more index old.objects.uploads.queue.sealed (just_sealed bytes rows end ∷ []) own has in
+      let whole : HasBytesAt index objects.uploads.queue.sealed own =
+      subst (λ list. HasBytesAt index list own) (sym next.sealed) more in
+      subst (λ n. HasBytesAt (number - (n + 1)) objects.uploads.queue.sealed own) (sym next.settled.frontier) whole
+
   pub seal_keeps_bytes : {R : Type 0} (reply : Reply R) → Seals reply old.objects objects → KeepsBytes old now
-  seal_keeps_bytes (told.Sealed number) seals = λ wanted bytes before has after.
-      let sealed = seals.0.uploads.sealed in
-      let frontier = seals.0.uploads.settled.frontier in
-      let more = bytes_of_more (wanted - (old.objects.uploads.queue.frontier + 1)) old.objects.uploads.queue.sealed _ bytes has in
-      let whole : HasBytesAt (wanted - (old.objects.uploads.queue.frontier + 1)) objects.uploads.queue.sealed bytes =
-      subst (λ list. HasBytesAt (wanted - (old.objects.uploads.queue.frontier + 1)) list bytes) (sym sealed) more in
-      subst (λ n. HasBytesAt (wanted - (n + 1)) objects.uploads.queue.sealed bytes) (sym frontier) whole
+  seal_keeps_bytes (told.Sealed number) seals = sealed_bytes _ _ _ seals.0.uploads
   seal_keeps_bytes told.Nothing seals = roomier_bytes seals.0
   seal_keeps_bytes told.Busy seals = roomier_bytes seals.0
   seal_keeps_bytes told.OutOfMemory seals = roomier_bytes seals.0
   seal_keeps_bytes reply seals = absurd seals
+
+  pub checkpoint_keeps_bytes : {R : Type 0} (reply : Reply R) → SealsCheckpoint reply old.objects objects → KeepsBytes old now
+  checkpoint_keeps_bytes (told.Sealed number) seals = sealed_bytes _ _ _ seals.0.sealed
+  checkpoint_keeps_bytes told.Busy seals = unchanged_bytes seals.0
+  checkpoint_keeps_bytes told.OutOfMemory seals = roomier_bytes seals.0
+  checkpoint_keeps_bytes reply seals = absurd seals
 
   pub taking_keeps_bytes : {R : Type 0} (reply : Reply R) → TakesLowestReady reply old.objects objects → KeepsBytes old now
   taking_keeps_bytes (told.Taken job) taken =

@@ -36,21 +36,22 @@ use Rattle.plain_disk.specs.Entries.{reply_of_full, batch_refusal, batch_refusal
 use Rattle.plain_disk.specs.Step.{plain_reply, is_refusal}
 use Rattle.plain_disk.proofs.EndLemmas.{frontier_ends}
 use Rattle.plain_disk.proofs.EventLemmas.{entering_keeps}
-use Rattle.plain_disk.proofs.FirstLemmas.{first_with}
 use Rattle.refine_log.specs.Shows.{ShowsLog}
 use Rattle.refine_log.specs.Logged.{HasLoggedEntries}
 use Rattle.refine_log.specs.Fuses.{fuse_in}
 use Rattle.refine_objects.specs.Shows.{ShowsObjects}
 use Rattle.refine_log.specs.Pending.{ShowsPending}
+use Rattle.refine_objects.specs.Table.{ShowsTable}
 use Rattle.refine_objects.specs.Laws.{HasCounts}
 use Rattle.refine_objects.proofs.ShowLemmas.{shown_have_counts, shown_with_other_cache, shown_with_other_places, room_shows_same}
 use Rattle.refine_objects.proofs.ShowLemmas.{added_shows_entry}
+use Rattle.refine_objects.proofs.TableLemmas.{table_shown_with_other_cache, room_shows_same_table, added_shows_table}
 use Rattle.vol_core.specs.declared.reply.EntryRefusal.{EntryRefusal}
 use Rattle.vol_core.specs.declared.reply.EntryRefusal.TheVariants as refusals
 use Rattle.vol_core.specs.declared.reply.Reply.{Reply}
 use Rattle.vol_core.specs.declared.reply.Reply.TheVariants as told
 use Rattle.vol_core.specs.Volume.{VolumeState}
-use Rattle.vol_core.specs.Shows.{Shows, NumbersGrow, max_number}
+use Rattle.vol_core.specs.Shows.{Shows, max_number}
 use Rattle.vol_core.specs.Events.{Asks, Tells}
 use Rattle.vol_core.specs.Step.{passing, most_of_step, may_lack_memory, IsStep, IsNoStep, StepsAsPlain}
 use Rattle.vol_core.specs.Calls.{IsReadyForStep, event_of, MayEnter, fullness_in, ComesToLog, IsRefusedEntry, EntersBoth, Enters}
@@ -61,7 +62,7 @@ use Rattle.vol_core.proofs.PlainEntering.{EntersPlain, refused_cache, batch_refu
 use Rattle.vol_core.proofs.AppendLemmas.{reply_to_append, entries_by, places_by, room_for_fewer}
 use Rattle.vol_core.proofs.LogEntering.{most_for, EntersWith, enters_with}
 use Rattle.vol_core.proofs.PendingSteps.{enter_pends}
-use Rattle.vol_core.proofs.StepLemmas.{passing_keeps, numbers_stay}
+use Rattle.vol_core.proofs.StepLemmas.{passing_keeps, CountsGrow, counts_stay}
 
 -- the volume with other objects and another log
 abbrev pub with_both : ObjLogState → LogState → VolumeState → VolumeState
@@ -141,6 +142,7 @@ record HasStepParts {R : Type 0} (state : R → ReceiptState) (entry : Entry) (r
   does : EntersPlain (passing left plain) entry answer plain_log spent taken
   tells : Tells state old reply answer
   has_objects : ShowsObjects data_at objects (record plain { entries = taken })
+  has_table : ShowsTable objects.uploads.queue (record plain { entries = taken })
   has_log : ShowsLog log plain_log
   logged : HasLoggedEntries data_at log (record plain { entries = taken })
   told : HasRoom (most_of_step (event_of {R = R} entry)).changes (most_of_step (event_of {R = R} entry)).bytes
@@ -179,12 +181,14 @@ module _ {R : Type 0} (state : R → ReceiptState) (reply : Reply R) (old : Volu
             entries
             (shown_with_other_cache parts.data_at objects (record plain { entries = parts.taken }) now.cache plain.pins
             parts.has_objects);
+        table =
+            subst (λ (l : List Entry). ShowsTable objects.uploads.queue (record plain { entries = l; cache = now.cache }))
+            entries
+            (table_shown_with_other_cache objects.uploads.queue (record plain { entries = parts.taken }) now.cache
+            parts.has_table);
         log = subst (ShowsLog log) (sym parts.does.log_is) parts.has_log;
         logged = subst (λ (l : List Entry). HasLoggedEntries parts.data_at log (record plain { entries = l; cache = now.cache }))
             entries logged;
-        alone = first_with plain now.entries now.cache plain.pins shows.alone;
-        checkpoint = shows.checkpoint;
-        pins = shows.pins;
         fuse = refl;
       }
 
@@ -264,6 +268,7 @@ module _ {R : Type 0} (state : R → ReceiptState) (entry : Entry) (old : Volume
     does = batch_refuses (passing plain.cache.left plain) entry answer is;
     tells = tells;
     has_objects = shows.objects;
+    has_table = shows.table;
     has_log = shows.log;
     logged = shows.logged;
     told = λ room. (shows.fuse, shows.fuse);
@@ -274,12 +279,13 @@ module _ {R : Type 0} (state : R → ReceiptState) (entry : Entry) (old : Volume
       → batch_refusal plain entry ≡ Some answer
       → Tells state old reply answer
       → objects ≡ old.objects → log ≡ old.log
-      → IsStep state (event_of entry) reply plain old (with_both objects log old) × NumbersGrow old (with_both objects log old)
+      → IsStep state (event_of entry) reply plain old (with_both objects log old)
+      × CountsGrow old (with_both objects log old)
   refused_step reply answer objects log is tells same_objects same_log =
-      subst₂ (λ o l. IsStep state (event_of entry) reply plain old (with_both o l old) × NumbersGrow old (with_both o l old))
+      subst₂ (λ o l. IsStep state (event_of entry) reply plain old (with_both o l old) × CountsGrow old (with_both o l old))
       (sym same_objects) (sym same_log) (
         step_by_parts state reply old plain shows old.objects old.log entry (refused_parts reply answer is tells),
-        numbers_stay old old refl refl,
+        counts_stay old old refl refl,
       )
 
   -- an entry that comes to the log
@@ -314,8 +320,9 @@ module _ {R : Type 0} (state : R → ReceiptState) (entry : Entry) (old : Volume
     came_parts : (reply : Reply R) (objects : ObjLogState) → Tells state old reply (reply_to_append result (history_length plain))
         → ShowsObjects (places_by result shows.data_at (history_length plain)) objects
         (record plain { entries = entries_by result plain.entries entry })
+        → ShowsTable objects.uploads.queue (record plain { entries = entries_by result plain.entries entry })
         → HasStepParts state entry reply old plain objects log
-    came_parts reply objects tells shown = record {
+    came_parts reply objects tells shown table = record {
       left = came.left;
       answer = reply_to_append result (history_length plain);
       plain_log = came.log;
@@ -325,6 +332,7 @@ module _ {R : Type 0} (state : R → ReceiptState) (entry : Entry) (old : Volume
       does = came.does;
       tells = tells;
       has_objects = shown;
+      has_table = table;
       has_log = came.shows;
       logged = came.logged;
       told = λ room. came.told (room_for_step old.log.commits.unfinished entry R old.log.commits.disk.budget room);
@@ -337,16 +345,21 @@ module _ {R : Type 0} (state : R → ReceiptState) (entry : Entry) (old : Volume
     ready_shows : ShowsObjects shows.data_at ready plain
     ready_shows = room_shows_same shows.data_at old.objects ready plain shows.objects comes.same
 
+    ready_table : ShowsTable ready.uploads.queue plain
+    ready_table = room_shows_same_table old.objects ready plain comes.same shows.table
+
   -- it has no record
   came_step : (reply : Reply R) (error : AppendError) (objects : ObjLogState) (log : LogState)
       → ComesToLog entry (Err error) old.objects objects old.log log
       → Tells state old reply (reply_to_append (Err error) (history_length plain))
-      → IsStep state (event_of entry) reply plain old (with_both objects log old) × NumbersGrow old (with_both objects log old)
+      → IsStep state (event_of entry) reply plain old (with_both objects log old)
+      × CountsGrow old (with_both objects log old)
   came_step reply error objects log comes tells =
       let with = came (Err error) objects log comes in
       let last = ready_last (Err error) objects log comes in (
         step_by_parts state reply old plain shows objects log entry
-            (came_parts (Err error) objects log comes reply objects tells (ready_shows (Err error) objects log comes)),
+            (came_parts (Err error) objects log comes reply objects tells (ready_shows (Err error) objects log comes)
+            (ready_table (Err error) objects log comes)),
         record { entries = with.next; objects = omega (arith, last); commits = with.number },
       )
 
@@ -378,7 +391,7 @@ module _ {R : Type 0} (state : R → ReceiptState) (entry : Entry) (old : Volume
 
   entered_step : (count : ℕ) (objects : ObjLogState) (log : LogState) → EntersBoth entry count old.objects objects old.log log
       → IsStep state (event_of entry) (told.Entered count) plain old (with_both objects log old)
-      × NumbersGrow old (with_both objects log old)
+      × CountsGrow old (with_both objects log old)
   entered_step count objects log both =
       let comes = both.comes in
       let with = came (Ok both.at) both.ready log comes in
@@ -386,9 +399,12 @@ module _ {R : Type 0} (state : R → ReceiptState) (entry : Entry) (old : Volume
       let last = ready_last (Ok both.at) both.ready log comes in
       let tells = ap replies.Entered (count_after both.at count both.ready objects comes.same both.added both.count_is) in
       let ready = ready_shows (Ok both.at) both.ready log comes in
-      let shown = added_shows both.at both.ready objects comes.same ready both.added in (
+      let shown = added_shows both.at both.ready objects comes.same ready both.added in
+      let table =
+      added_shows_table both.ready objects plain entry (both.at + 1) both.added
+      (ready_table (Ok both.at) both.ready log comes) in (
         step_by_parts state (told.Entered count) old plain shows objects log entry
-            (came_parts (Ok both.at) both.ready log comes (told.Entered count) objects tells shown),
+            (came_parts (Ok both.at) both.ready log comes (told.Entered count) objects tells shown table),
         record { entries = with.next; objects = omega (arith, added_last, last); commits = with.number },
       )
 
@@ -397,7 +413,7 @@ module _ {R : Type 0} (state : R → ReceiptState) (entry : Entry) (old : Volume
       → log ≡ record old.log { reserved = log.reserved } → is_in_range old.objects.batch.geometry entry ≡ true
       → fullness_in old.objects ≡ None
       → IsNoStep state (event_of entry) (told.NotEntered back refusals.OutOfMemory) plain old (with_both objects log old)
-      × NumbersGrow old (with_both objects log old)
+      × CountsGrow old (with_both objects log old)
   lacking_step back objects log same is in_range not_full =
       let before : LogState = taken_for old.log log.reserved in
       let next = ap (λ (l : LogState). next_seq l) is in
@@ -413,13 +429,11 @@ module _ {R : Type 0} (state : R → ReceiptState) (entry : Entry) (old : Volume
             valid = shows.valid;
             data_at = shows.data_at;
             objects = room_shows_same shows.data_at old.objects objects plain shows.objects same;
+            table = room_shows_same_table old.objects objects plain same shows.table;
             log = subst (λ l. ShowsLog l plain.cache.log) (sym is) (reserved_shows old.log log.reserved plain.cache.log
                 shows.log);
             logged = subst (λ l. HasLoggedEntries shows.data_at l plain) (sym is)
                 (logged_alike shows.data_at old.log before plain refl refl refl shows.logged);
-            alone = shows.alone;
-            checkpoint = shows.checkpoint;
-            pins = shows.pins;
             fuse = shows.fuse ∙ sym (ap (λ (l : LogState). fuse_in l.commits.disk.budget) is);
           };
           pending = λ pends. subst (λ l. ShowsPending l plain.cache) (sym is)
@@ -434,7 +448,7 @@ module _ {R : Type 0} (state : R → ReceiptState) (entry : Entry) (old : Volume
   Outcome reply objects log =
       (IsStep state (event_of entry) reply plain old (with_both objects log old)
       ⊎ IsNoStep state (event_of entry) reply plain old (with_both objects log old))
-      × NumbersGrow old (with_both objects log old)
+      × CountsGrow old (with_both objects log old)
 
   refused_outcome : (back : Entry) (why : EntryRefusal) (objects : ObjLogState) (log : LogState)
       → IsRefusedEntry entry why old.objects objects old.log log
@@ -482,7 +496,7 @@ pub enter_grow : {R : Type 0} (state : R → ReceiptState) (entry : Entry) (repl
     → IsUploads old.objects.uploads → IsOnDisk old.log
     → Enters entry reply old.objects objects old.log log
     → Shows old plain
-    → NumbersGrow old (with_both objects log old)
+    → CountsGrow old (with_both objects log old)
 enter_grow state entry reply old objects log plain uploads disk enters shows =
     (each_outcome state entry old plain shows uploads disk reply objects log enters).1
 

@@ -16,20 +16,20 @@ use Rattle.plain_disk.specs.Cache.{passes_commit}
 use Rattle.plain_disk.specs.State.{PlainState, history_length}
 use Rattle.plain_disk.specs.Entries.{flush_reply, after_flush}
 use Rattle.plain_disk.proofs.EventLemmas.{flush_keeps}
-use Rattle.plain_disk.proofs.FirstLemmas.{first_with}
 use Rattle.refine_log.specs.Fuses.{fuse_in}
 use Rattle.refine_objects.proofs.ShowLemmas.{shown_have_counts, shown_with_other_cache}
+use Rattle.refine_objects.proofs.TableLemmas.{table_shown_with_other_cache}
 use Rattle.refine_log.specs.Pending.{ShowsPending}
 use Rattle.vol_core.specs.declared.event.Event.TheVariants.{Flush}
 use Rattle.vol_core.specs.declared.reply.Reply.{Reply}
 use Rattle.vol_core.specs.declared.reply.Reply.TheVariants as told
 use Rattle.vol_core.specs.Volume.{VolumeState}
-use Rattle.vol_core.specs.Shows.{Shows, NumbersGrow, IsVolume}
+use Rattle.vol_core.specs.Shows.{Shows, IsVolume}
 use Rattle.vol_core.specs.Events.{Tells}
 use Rattle.vol_core.specs.Step.{passing, most_of_commit, IsStep, StepsAsPlain}
 use Rattle.vol_core.specs.Calls.{IsReadyForStep, CommitsFrom}
 use Rattle.vol_core.proofs.CommitLemmas.{CommitsWithFuse, commit_has_fuse}
-use Rattle.vol_core.proofs.StepLemmas.{passing_keeps, small_of}
+use Rattle.vol_core.proofs.StepLemmas.{passing_keeps, CountsGrow, numbers_grow, steps_keep_volume}
 use Rattle.vol_core.proofs.PendingSteps.{commit_pends}
 
 -- the volume with another log
@@ -74,15 +74,13 @@ module _ (old : VolumeState) (log : LogState) (is_made : Bool) (plain : PlainSta
             (flush_keeps asked (passing_keeps commit.fuse plain shows.valid));
         data_at = shows.data_at;
         objects = shown_with_other_cache shows.data_at old.objects plain flushed.cache plain.pins shows.objects;
+        table = table_shown_with_other_cache old.objects.uploads.queue plain flushed.cache shows.table;
         log = commit.commits.log;
         logged = record { first = logged.first; rows = logged.rows; entries = logged.entries; placed = logged.placed };
-        alone = first_with plain plain.entries flushed.cache plain.pins shows.alone;
-        checkpoint = shows.checkpoint;
-        pins = shows.pins;
         fuse = refl;
       }
 
-  committed_grow : NumbersGrow old (with_log log old)
+  committed_grow : CountsGrow old (with_log log old)
   committed_grow = record {
     entries = omega (arith, commit.commits.next);
     objects = omega arith;
@@ -145,20 +143,23 @@ flush_steps state old log batch is_made end count reply uploads on_disk end_is c
 pub flush_grow : (old : VolumeState) (log : LogState) (is_made : Bool) (end : ℕ) (plain : PlainState) → Shows old plain
     → IsUploads old.objects.uploads → end ≡ old.objects.uploads.queue.end
     → CommitsFrom end is_made old.log log
-    → NumbersGrow old (with_log log old)
+    → CountsGrow old (with_log log old)
 flush_grow old log is_made end plain shows uploads end_is commits =
     committed_grow old log is_made plain shows uploads (subst (λ n. CommitsFrom n is_made old.log log) end_is commits)
 
-pub flush_keeps_volume : (old : VolumeState) (log : LogState) (is_made : Bool) (end steps : ℕ)
-    → IsUploads old.objects.uploads → end ≡ old.objects.uploads.queue.end
+-- each reply is one of these
+pub flush_keeps_volume : {R : Type 0} (state : R → ReceiptState) (old : VolumeState) (log : LogState) (is_made : Bool)
+    (end steps : ℕ)
+    → IsUploads old.objects.uploads → IsOnDisk old.log → end ≡ old.objects.uploads.queue.end
     → CommitsFrom end is_made old.log log
     → IsReadyForStep (record { volume = old; steps = steps }) → IsVolume (record { volume = old; steps = steps })
     → IsVolume (record { volume = with_log log old; steps = steps })
-flush_keeps_volume old log is_made end steps uploads end_is commits ready is =
-    let from = subst (λ n. CommitsFrom n is_made old.log log) end_is commits in
-    record {
-      plain = flushed old log is_made is.plain is.shows uploads from;
-      shows = flushed_shown old log is_made is.plain is.shows uploads from;
-      steps = is.steps;
-      small = small_of old (with_log log old) steps (committed_grow old log is_made is.plain is.shows uploads from) ready;
-    }
+flush_keeps_volume state old log is_made end steps uploads on_disk end_is commits ready is =
+    let batch = old.objects.batch in
+    let count = batch.first + length batch.entries in
+    let step =
+    flush_steps state old log batch is_made end count (flush_told is_made count) uploads on_disk end_is commits refl refl
+    refl in
+    let grow = flush_grow old log is_made end is.plain is.shows uploads end_is commits in
+    steps_keep_volume state Flush (flush_told is_made count) old (with_log log old) steps is ready step
+    (numbers_grow state Flush (flush_told is_made count) old (with_log log old) is.plain is.shows step grow)

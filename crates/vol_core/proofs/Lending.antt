@@ -1,24 +1,25 @@
-use Rattle.std.proofs.Common.{◌≡◌, ℕ, List, refl, sym, subst}
+use Rattle.std.proofs.Common.{◌≡◌, ℕ, refl, sym, subst}
 use Rattle.lsvd_device.specs.Device.{DiskState}
 use Rattle.commit_slot.specs.Commits.{with_budget}
 use Rattle.cache_log.specs.Log.{LogState}
 use Rattle.obj_log.specs.State.{ObjLogState}
 use Rattle.plain_disk.specs.State.{PlainState}
-use Rattle.plain_disk.proofs.FirstLemmas.{first_with}
 use Rattle.refine_log.specs.Fuses.{fuse_in}
 use Rattle.refine_objects.proofs.ShowLemmas.{shown_with_other_cache}
+use Rattle.refine_objects.proofs.TableLemmas.{table_shown_with_other_cache}
 use Rattle.vol_core.specs.Volume.{VolumeState, volume_of, with_budget_of}
 use Rattle.vol_core.specs.Shows.{Shows, IsSmall}
 use Rattle.vol_core.specs.Step.{passing}
-use Rattle.vol_core.proofs.CreateLemmas.{passing_is_plain}
+use Rattle.vol_core.proofs.StepLemmas.{passing_keeps}
 
 -- on a device that passes other calls a volume shows what it showed, but for these
 pub shows_passing : (disk : DiskState) (volume : VolumeState) (plain : PlainState) → Shows volume plain
     → Shows (with_budget_of disk volume) (passing (fuse_in disk.budget) plain)
 shows_passing disk volume plain shows = record {
-  valid = passing_is_plain (fuse_in disk.budget) plain shows.valid;
+  valid = passing_keeps (fuse_in disk.budget) plain shows.valid;
   data_at = shows.data_at;
   objects = shown_with_other_cache shows.data_at volume.objects plain _ plain.pins shows.objects;
+  table = table_shown_with_other_cache volume.objects.uploads.queue plain _ shows.table;
   log = record {
     room = shows.log.room;
     last = shows.log.last;
@@ -40,25 +41,22 @@ shows_passing disk volume plain shows = record {
     entries = shows.logged.entries;
     placed = shows.logged.placed;
   };
-  alone = first_with plain plain.entries (passing (fuse_in disk.budget) plain).cache plain.pins shows.alone;
-  checkpoint = shows.checkpoint;
-  pins = shows.pins;
   fuse = refl;
 }
 
 -- the same of a log that was lent
-pub shows_lent : (objects : ObjLogState) (log new : LogState) (pins : List ℕ) (checkpoint : ℕ) (plain : PlainState)
+pub shows_lent : (objects : ObjLogState) (log new : LogState) (plain : PlainState)
     → new ≡ record log { commits = with_budget new.commits.disk.budget log.commits }
-    → Shows (volume_of objects log pins checkpoint) plain
-    → Shows (volume_of objects new pins checkpoint) (passing (fuse_in new.commits.disk.budget) plain)
-shows_lent objects log new pins checkpoint plain is shows =
-    subst (λ l. Shows (volume_of objects l pins checkpoint) (passing (fuse_in new.commits.disk.budget) plain)) (sym is)
-    (shows_passing new.commits.disk (volume_of objects log pins checkpoint) plain shows)
+    → Shows (volume_of objects log) plain
+    → Shows (volume_of objects new) (passing (fuse_in new.commits.disk.budget) plain)
+shows_lent objects log new plain is shows =
+    subst (λ l. Shows (volume_of objects l) (passing (fuse_in new.commits.disk.budget) plain)) (sym is)
+    (shows_passing new.commits.disk (volume_of objects log) plain shows)
 
-pub small_lent : (objects : ObjLogState) (log new : LogState) (pins : List ℕ) (checkpoint steps : ℕ)
+pub small_lent : (objects : ObjLogState) (log new : LogState) (steps : ℕ)
     → new ≡ record log { commits = with_budget new.commits.disk.budget log.commits }
-    → IsSmall (volume_of objects log pins checkpoint) steps
-    → IsSmall (volume_of objects new pins checkpoint) steps
-small_lent objects log new pins checkpoint steps is small =
-    subst (λ l. IsSmall (volume_of objects l pins checkpoint) steps) (sym is)
-    (record { entries = small.entries; objects = small.objects; commits = small.commits })
+    → IsSmall (volume_of objects log) steps
+    → IsSmall (volume_of objects new) steps
+small_lent objects log new steps is small =
+    subst (λ l. IsSmall (volume_of objects l) steps) (sym is)
+    (record { entries = small.entries; objects = small.objects; commits = small.commits; pins = small.pins })

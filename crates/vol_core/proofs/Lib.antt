@@ -1,3 +1,14 @@
+pub mod LeftLemmas
+pub mod ShownLemmas
+pub mod HoldLemmas
+pub mod OwnerLemmas
+pub mod RunLemmas
+pub mod ReadLemmas
+mod PinCounts
+mod ObjectsRead
+mod PinsGrow
+pub mod StepLemmas
+pub mod OpeningLemmas
 pub mod CreateLemmas
 mod Lending
 mod LoggedLemmas
@@ -6,12 +17,9 @@ mod PlainEntering
 mod AppendLemmas
 mod LogEntering
 mod PendingSteps
-pub mod StepLemmas
 mod ObjectSteps
 mod FlushLemmas
 mod EnterSteps
-mod PinCounts
-mod ObjectsRead
 mod PlanGives
 mod LookLemmas
 mod ReleaseSteps
@@ -20,9 +28,5 @@ mod CommitStops
 mod StopSteps
 mod BytesLemmas
 mod StepsOf
-pub mod LeftLemmas
-pub mod ShownLemmas
-pub mod HoldLemmas
-pub mod OwnerLemmas
-pub mod RunLemmas
-pub mod ReadLemmas
+mod CheckpointSteps
+mod RemovalSteps

@@ -2,14 +2,17 @@
 use Rattle.std.proofs.Common.{◌≡◌, ℕ, inl, inr, Bool, true, false, if◌then◌else◌, List, ◌++◌, length, refl, sym, ◌∙◌, ap, subst}
 use Rattle.std.proofs.Common.{arith}
 use Rattle.std.specs.List.{All}
-use Rattle.std.proofs.lemmas.List.Sums.{sum_by-append}
+use Rattle.std.proofs.Math.Path.{subst₂}
 use Rattle.lsvd_base.specs.Limits.{may_transfer}
 use Rattle.lsvd_device.specs.Calls.{Fuse, passes, fuse_after}
 use Rattle.lsvd_objstore.specs.Store.{ReceiptState}
 use Rattle.commit_slot.specs.Commits.{IsAsBefore}
 use Rattle.cache_log.specs.Log.{LogState, HasSameEntries}
 use Rattle.cache_log.specs.Reads.{reads_cost}
+use Rattle.upload_window.specs.Window.{WindowState}
 use Rattle.object_uploads.specs.Order.{IsUploads}
+use Rattle.object_uploads.specs.Removal.{PinsEach}
+use Rattle.obj_log.specs.State.{ObjLogState}
 use Rattle.refine_log.specs.Pending.{ShowsPending}
 use Rattle.refine_log.proofs.Asked.{spent_after}
 use Rattle.refine_log.proofs.PendingShown.{still_shows_pending}
@@ -21,34 +24,31 @@ use Rattle.plain_disk.specs.State.{PlainState}
 use Rattle.plain_disk.specs.Reads.{objects_read, look_calls, planned_read, look_reply, after_look}
 use Rattle.plain_disk.specs.Step.{is_refusal}
 use Rattle.plain_disk.specs.Valid.{IsPlainVolume}
-use Rattle.plain_disk.proofs.FirstLemmas.{first_with}
 use Rattle.refine_log.specs.Fuses.{fuse_in}
 use Rattle.refine_log.proofs.Shown.{same_shows_same}
+use Rattle.refine_log.specs.Logged.{HasLoggedEntries}
+use Rattle.refine_objects.specs.TableLaws.{ShowsBoth}
 use Rattle.refine_objects.proofs.ShowLemmas.{shown_have_counts, shown_with_other_cache}
+use Rattle.refine_objects.proofs.TableLemmas.{table_shown_with_other_cache}
+use Rattle.refine_objects.proofs.PinsShown.{pinned_each_show_pins}
 use Rattle.read_plan.specs.Plan.{PlanState, TellsWhole}
-use Rattle.read_plan.specs.Pins.{times, ArePinned, HasSamePins}
 use Rattle.read_plan.specs.Look.{IsReadPlan, reads_of, ReadsRange}
-use Rattle.read_plan.proofs.PinLemmas.{is_it}
 use Rattle.vol_core.specs.declared.event.Event.TheVariants.{Look}
 use Rattle.vol_core.specs.declared.reply.Reply.{Reply}
 use Rattle.vol_core.specs.declared.reply.Reply.TheVariants as told
 use Rattle.vol_core.specs.Volume.{VolumeState}
-use Rattle.vol_core.specs.Shows.{Shows, NumbersGrow}
+use Rattle.vol_core.specs.Shows.{Shows}
 use Rattle.vol_core.specs.Events.{Tells}
 use Rattle.vol_core.specs.Step.{passing, IsStep, StepsAsPlain}
-use Rattle.vol_core.proofs.StepLemmas.{quiet_step}
+use Rattle.vol_core.proofs.StepLemmas.{CountsGrow, quiet_step}
+use Rattle.vol_core.proofs.EnterSteps.{with_both}
 use Rattle.vol_core.proofs.PendingSteps.{told_stays}
 use Rattle.vol_core.proofs.LoggedLemmas.{logged_alike}
-use Rattle.vol_core.proofs.ObjectsRead.{objects_are_read}
+use Rattle.vol_core.proofs.ObjectsRead.{each_is_read, objects_are_read}
 use Rattle.vol_core.proofs.PlanGives.{plan_gives_read}
 use Rattle.vol_core.proofs.LookLemmas.{read_shown, may_read, read_ends, reads_are_calls, reads_have_fuse}
-use Rattle.vol_core.proofs.ReleaseSteps.{logged_with}
 
 -- ---- what a look leaves
-
--- the volume after reads of its log
-abbrev pub with_reads : LogState → (pins : List ℕ) → VolumeState → VolumeState
-with_reads log pins volume = record volume { log = log; pins = pins }
 
 -- the plain volume with other pins, whose device passes other calls
 abbrev plain_with : Fuse → (pins : List ℕ) → PlainState → PlainState
@@ -71,42 +71,31 @@ still_plain left pins plain is = record {
   size = is.size;
 }
 
-looked_shown : (old : VolumeState) (log : LogState) (pins now_pins : List ℕ) (plain : PlainState) → Shows old plain
-    → HasSameEntries old.log log
-    → IsAsBefore old.log.commits log.commits → ((number : ℕ) → times number pins ≡ times number now_pins)
-    → Shows (with_reads log pins old) (plain_with (fuse_in log.commits.disk.budget) now_pins plain)
-looked_shown old log pins now_pins plain shows same commits pinned =
+-- the plain volume whose pins and cache are others has the same entries past the frontier's end
+logged_with : (data_at : ℕ → ℕ) (log : LogState) (plain : PlainState) (cache : PlainCache) (pins : List ℕ)
+    → HasLoggedEntries data_at log plain
+    → HasLoggedEntries data_at log (record plain { cache = cache; pins = pins })
+logged_with data_at log plain cache pins is =
+    record { first = is.first; rows = is.rows; entries = is.entries; placed = is.placed }
+
+looked_shown : (old : VolumeState) (objects : ObjLogState) (log : LogState) (pins : List ℕ) (plain : PlainState)
+    → (shows : Shows old plain) → HasSameEntries old.log log → IsAsBefore old.log.commits log.commits
+    → ShowsBoth shows.data_at objects (record plain { pins = pins })
+    → Shows (with_both objects log old) (plain_with (fuse_in log.commits.disk.budget) pins plain)
+looked_shown old objects log pins plain shows same commits both =
     let cache : PlainCache = record plain.cache { left = fuse_in log.commits.disk.budget } in
+    let pinned : PlainState = record plain { pins = pins } in
     record {
-      valid = still_plain (fuse_in log.commits.disk.budget) now_pins plain shows.valid;
+      valid = still_plain (fuse_in log.commits.disk.budget) pins plain shows.valid;
       data_at = shows.data_at;
-      objects = shown_with_other_cache shows.data_at old.objects plain cache now_pins shows.objects;
+      objects = shown_with_other_cache shows.data_at objects pinned cache pins both.objects;
+      table = table_shown_with_other_cache objects.uploads.queue pinned cache both.table;
       log = same_shows_same old.log log plain.cache.log shows.log same commits;
       logged =
-          logged_with shows.data_at log plain cache now_pins
+          logged_with shows.data_at log plain cache pins
           (logged_alike shows.data_at old.log log plain same.first same.rows same.entries shows.logged);
-      alone = first_with plain plain.entries cache now_pins shows.alone;
-      checkpoint = shows.checkpoint;
-      pins = pinned;
       fuse = refl;
     }
-
--- the same after memory ran out, where nothing was done
-unlooked_shown : (old : VolumeState) (log : LogState) (pins : List ℕ) (plain : PlainState) → Shows old plain → log ≡ old.log
-    → HasSamePins old.pins pins → Shows (with_reads log pins old) plain
-unlooked_shown old log pins plain shows same pinned =
-    subst (λ l. Shows (with_reads l pins old) plain) (sym same)
-    (record {
-      valid = shows.valid;
-      data_at = shows.data_at;
-      objects = shows.objects;
-      log = shows.log;
-      logged = shows.logged;
-      alone = shows.alone;
-      checkpoint = shows.checkpoint;
-      pins = λ number. pinned number ∙ shows.pins number;
-      fuse = shows.fuse;
-    })
 
 -- ---- the plain volume's look
 
@@ -154,12 +143,12 @@ module _ {R : Type 0} (state : R → ReceiptState) (old : VolumeState) (lba sect
     (may : may_transfer old.objects.batch.geometry lba sectors ≡ true)
     (plain : PlainState) (shows : Shows old plain) where
   -- reads that were made, or failed, are those of the plain volume with some fuse
-  read_step : (reply : Reply R) (log : LogState) (pins : List ℕ) (are_made : Bool)
+  read_step : (reply : Reply R) (objects : ObjLogState) (log : LogState) (are_made : Bool)
       → ReadsRange lba sectors old.objects.uploads.queue.maps are_made old.log log
       → Tells state old reply (read_reply are_made lba sectors plain)
-      → ((number : ℕ) → times number pins ≡ times number (read_pins are_made lba sectors plain))
-      → IsStep state (Look lba sectors) reply plain old (with_reads log pins old)
-  read_step reply log pins are_made reads tells pinned =
+      → ShowsBoth shows.data_at objects (record plain { pins = read_pins are_made lba sectors plain })
+      → IsStep state (Look lba sectors) reply plain old (with_both objects log old)
+  read_step reply objects log are_made reads tells both =
       let shown = read_shown old plain shows ordered lba sectors may in
       let inside = read_ends old plain shows ordered lba sectors may in
       let may_plain = may_read old plain shows ordered lba sectors may in
@@ -176,8 +165,8 @@ module _ {R : Type 0} (state : R → ReceiptState) (old : VolumeState) (lba sect
         asks = refl;
         tells = subst (Tells state old reply) (sym (look_reply_is has.fuse plain lba sectors true are_made may_plain lets)) tells;
         shows =
-            subst (λ p. Shows (with_reads log pins old) (passing left p)) (sym after)
-            (looked_shown old log pins (read_pins are_made lba sectors plain) plain shows rows.same rows.commits pinned);
+            subst (λ p. Shows (with_both objects log old) (passing left p)) (sym after)
+            (looked_shown old objects log (read_pins are_made lba sectors plain) plain shows rows.same rows.commits both);
         told = λ room. (
           (has.told room).0,
           ap (λ (p : PlainState). p.cache.left) after ∙ (ap (fuse_after has.fuse) (sym same) ∙ (has.told room).1),
@@ -192,52 +181,57 @@ module _ {R : Type 0} (state : R → ReceiptState) (old : VolumeState) (lba sect
             refl);
       }
 
-  planned_step : (plan : PlanState) (log : LogState) (pins : List ℕ) → IsReadPlan lba sectors old.objects old.log plan
-      → All (λ piece. TellsWhole piece.receipt) plan.pieces → ArePinned plan.objects old.pins pins
+  own_both : ShowsBoth shows.data_at old.objects plain
+  own_both = record { objects = shows.objects; table = shows.table }
+
+  planned_step : (plan : PlanState) (objects : ObjLogState) (log : LogState)
+      → IsReadPlan lba sectors old.objects old.log plan
+      → All (λ piece. TellsWhole piece.receipt) plan.pieces
+      → PinsEach plan.objects old.objects.uploads objects.uploads → objects.batch ≡ old.objects.batch
       → ReadsRange lba sectors old.objects.uploads.queue.maps true old.log log
-      → IsStep state (Look lba sectors) (told.Planned plan) plain old (with_reads log pins old)
-  planned_step plan log pins is whole pinned reads =
+      → IsStep state (Look lba sectors) (told.Planned plan) plain old (with_both objects log old)
+  planned_step plan objects log is whole pinned batch reads =
       let shown = read_shown old plain shows ordered lba sectors may in
       let inside = read_ends old plain shows ordered lba sectors may in
-      let numbers = objects_read plain lba sectors in
-      let objects = objects_are_read shows.data_at old.objects old.log plain shown lba sectors inside plan.objects is.objects in
+      let numbers = objects_are_read shows.data_at old.objects old.log plain shown lba sectors inside plan.objects is.objects in
       let history_length = is.history_length
       ∙ (shown_have_counts shows.data_at old.objects plain ordered shows.valid shows.objects).next in
       let gives = plan_gives_read shows.data_at old.objects old.log plain shown lba sectors inside plan is whole in
-      read_step (told.Planned plan) log pins true reads
-      (planned_read plain lba sectors, refl, record { history_length = history_length; objects = objects; gives = gives })
-      (λ number.
-      let both = pinned number in
-      let before = shows.pins number in
-      let added = sum_by-append (is_it number) plain.pins numbers in
-      let own = ap (times number) objects in
-      omega (arith, both, before, added, own))
+      let each = each_is_read shows.data_at old.objects old.log plain shown lba sectors inside plan.objects is.objects in
+      let both =
+      pinned_each_show_pins shows.data_at old.objects objects plain plan.objects ordered shows.valid own_both each pinned batch in
+      read_step (told.Planned plan) objects log true reads
+      (planned_read plain lba sectors, refl, record { history_length = history_length; objects = numbers; gives = gives })
+      (subst (λ list. ShowsBoth shows.data_at objects (record plain { pins = plain.pins ++ list })) numbers both)
 
 pub planned_steps : {R : Type 0} (state : R → ReceiptState) (old : VolumeState) (lba sectors : ℕ) (plan : PlanState)
-    (log : LogState) (pins : List ℕ)
+    (objects : ObjLogState) (log : LogState)
     → IsUploads old.objects.uploads → may_transfer old.objects.batch.geometry lba sectors ≡ true
     → IsReadPlan lba sectors old.objects old.log plan → All (λ piece. TellsWhole piece.receipt) plan.pieces
-    → ArePinned plan.objects old.pins pins
+    → PinsEach plan.objects old.objects.uploads objects.uploads → objects.batch ≡ old.objects.batch
     → ReadsRange lba sectors old.objects.uploads.queue.maps true old.log log
-    → StepsAsPlain state (Look lba sectors) (told.Planned plan) old (with_reads log pins old)
-planned_steps state old lba sectors plan log pins ordered may is whole pinned reads plain shows =
-    inl (planned_step state old lba sectors ordered may plain shows plan log pins is whole pinned reads)
+    → StepsAsPlain state (Look lba sectors) (told.Planned plan) old (with_both objects log old)
+planned_steps state old lba sectors plan objects log ordered may is whole pinned batch reads plain shows =
+    inl (planned_step state old lba sectors ordered may plain shows plan objects log is whole pinned batch reads)
 
 -- a read failed
-pub fault_steps : {R : Type 0} (state : R → ReceiptState) (old : VolumeState) (lba sectors : ℕ) (log : LogState) (pins : List ℕ)
+pub fault_steps : {R : Type 0} (state : R → ReceiptState) (old : VolumeState) (lba sectors : ℕ) (objects : ObjLogState)
+    (log : LogState)
     → IsUploads old.objects.uploads → may_transfer old.objects.batch.geometry lba sectors ≡ true
-    → HasSamePins old.pins pins → ReadsRange lba sectors old.objects.uploads.queue.maps false old.log log
-    → StepsAsPlain state (Look lba sectors) told.Fault old (with_reads log pins old)
-fault_steps state old lba sectors log pins ordered may pinned reads plain shows =
+    → objects ≡ old.objects → ReadsRange lba sectors old.objects.uploads.queue.maps false old.log log
+    → StepsAsPlain state (Look lba sectors) told.Fault old (with_both objects log old)
+fault_steps state old lba sectors objects log ordered may same reads plain shows =
     inl
-    (read_step state old lba sectors ordered may plain shows told.Fault log pins false reads refl (λ number. pinned number
-    ∙ shows.pins number))
+    (subst (λ o. IsStep state (Look lba sectors) told.Fault plain old (with_both o log old)) (sym same)
+    (read_step state old lba sectors ordered may plain shows told.Fault old.objects log false reads refl
+    (own_both state old lba sectors ordered may plain shows)))
 
 -- memory ran out
-pub memory_steps : {R : Type 0} (state : R → ReceiptState) (old : VolumeState) (lba sectors : ℕ) (log : LogState) (pins : List ℕ)
-    → may_transfer old.objects.batch.geometry lba sectors ≡ true → log ≡ old.log → HasSamePins old.pins pins
-    → StepsAsPlain state (Look lba sectors) told.OutOfMemory old (with_reads log pins old)
-memory_steps state old lba sectors log pins may same pinned plain shows =
+pub memory_steps : {R : Type 0} (state : R → ReceiptState) (old : VolumeState) (lba sectors : ℕ) (objects : ObjLogState)
+    (log : LogState)
+    → may_transfer old.objects.batch.geometry lba sectors ≡ true → objects ≡ old.objects → log ≡ old.log
+    → StepsAsPlain state (Look lba sectors) told.OutOfMemory old (with_both objects log old)
+memory_steps state old lba sectors objects log may same_objects same_log plain shows =
     let may_plain = ap (λ g. may_transfer g lba sectors) (sym shows.objects.geometry) ∙ may in
     inr
     (record {
@@ -246,8 +240,8 @@ memory_steps state old lba sectors log pins may same pinned plain shows =
       asked = events.Look lba sectors;
       asks = refl;
       taken = look_is_taken plain lba sectors may_plain;
-      shows = unlooked_shown old log pins plain shows same pinned;
-      pending = λ pends. subst (λ l. ShowsPending l plain.cache) (sym same) pends;
+      shows = subst₂ (λ o l. Shows (with_both o l old) plain) (sym same_objects) (sym same_log) shows;
+      pending = λ pends. subst (λ l. ShowsPending l plain.cache) (sym same_log) pends;
     })
 
 -- the volume does not take a read of these sectors
@@ -266,10 +260,13 @@ range_steps state old lba sectors may_not plain shows =
 -- ---- the numbers after a look
 
 -- reads of the log leave them
-pub reads_grow : (old : VolumeState) (log : LogState) (pins : List ℕ) (lba sectors : ℕ) (are_made : Bool)
-    → ReadsRange lba sectors old.objects.uploads.queue.maps are_made old.log log → NumbersGrow old (with_reads log pins old)
-reads_grow old log pins lba sectors are_made reads =
+pub reads_grow : (old : VolumeState) (objects : ObjLogState) (log : LogState) (lba sectors : ℕ) (are_made : Bool)
+    → objects.uploads.window ≡ old.objects.uploads.window
+    → ReadsRange lba sectors old.objects.uploads.queue.maps are_made old.log log
+    → CountsGrow old (with_both objects log old)
+reads_grow old objects log lba sectors are_made window reads =
     let first = reads.reads.same.first in
     let rows = ap length reads.reads.same.rows in
     let number = reads.reads.commits.same_number in
-    record { entries = omega (arith, first, rows); objects = omega arith; commits = omega (arith, number) }
+    let last = ap (λ (w : WindowState). w.last) window in
+    record { entries = omega (arith, first, rows); objects = omega (arith, last); commits = omega (arith, number) }

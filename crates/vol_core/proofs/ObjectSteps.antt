@@ -6,6 +6,7 @@ use Rattle.std.proofs.lemmas.Bool.Decides.{nat_tests}
 use Rattle.lsvd_objstore.specs.Store.{ReceiptState}
 use Rattle.upload_window.specs.Window.{WindowState, lowest_ready, is_started, below_open, marked, acknowledged}
 use Rattle.object_uploads.specs.State.{JobState}
+use Rattle.object_uploads.specs.Queue.{newest_checkpoint}
 use Rattle.object_uploads.specs.Order.{IsUploads}
 use Rattle.object_uploads.specs.Image.{IsReceiptFor}
 use Rattle.batcher.specs.State.{BatchState}
@@ -23,22 +24,24 @@ use Rattle.plain_disk.specs.Step.{plain_reply, plain_after, is_refusal}
 use Rattle.plain_disk.specs.Valid.{IsPlainVolume}
 use Rattle.plain_disk.proofs.EndLemmas.{ends_grow}
 use Rattle.plain_disk.proofs.EventLemmas.{seal_keeps, take_keeps, done_keeps, failed_keeps}
-use Rattle.plain_disk.proofs.FirstLemmas.{sealed_is_first, checkpoint_stays, seal_keeps_first, take_keeps_first}
-use Rattle.plain_disk.proofs.FirstLemmas.{done_keeps_first, failed_keeps_first}
 use Rattle.refine_objects.specs.Shows.{ShowsObjects}
+use Rattle.refine_objects.specs.Table.{ShowsTable}
 use Rattle.refine_objects.proofs.ShowLemmas.{shown_have_counts, room_shows_same}
 use Rattle.refine_objects.proofs.SealLemmas.{with_sealed, sealed_end, sealed_shows_seal, refused_seal_shows_none}
+use Rattle.refine_objects.proofs.TableLemmas.{room_shows_same_table, sealed_shows_table, taken_shows_table, failed_shows_table}
+use Rattle.refine_objects.proofs.DoneTable.{done_shows_table}
+use Rattle.refine_objects.proofs.NewestShown.{newest_is_shown}
 use Rattle.refine_objects.proofs.JobLemmas.{below_marked, taken_shows_take, failed_shows_failed, done_frontier, done_shows_done}
 use Rattle.vol_core.specs.declared.event.Event.{Event}
 use Rattle.vol_core.specs.declared.event.Event.TheVariants.{Seal, TakeJob, JobDone, JobFailed, Status}
 use Rattle.vol_core.specs.declared.reply.Reply.{Reply}
 use Rattle.vol_core.specs.declared.reply.Reply.TheVariants as told
 use Rattle.vol_core.specs.Volume.{VolumeState}
-use Rattle.vol_core.specs.Shows.{Shows, NumbersGrow}
+use Rattle.vol_core.specs.Shows.{Shows}
 use Rattle.vol_core.specs.Events.{Asks, Tells}
-use Rattle.vol_core.specs.Step.{IsStep, StepsAsPlain}
 use Rattle.vol_core.specs.Calls.{Seals, TakesLowestReady, Finishes, Returns}
-use Rattle.vol_core.proofs.StepLemmas.{quiet_step, IsOfOtherObjects, with_objects, objects_shown}
+use Rattle.vol_core.specs.Step.{IsStep, StepsAsPlain}
+use Rattle.vol_core.proofs.StepLemmas.{CountsGrow, quiet_step, IsOfOtherObjects, with_objects, objects_shown}
 
 -- ---- a seal that is not refused
 
@@ -57,35 +60,35 @@ seal_is_taken data_at objects plain shows some free =
 module _ (old : VolumeState) (objects : ObjLogState) where
   -- they grow where this window has at most one object more
   by_window : (window : WindowState) → objects.uploads.window ≡ window → window.last ≤ old.objects.uploads.window.last + 1
-      → NumbersGrow old (with_objects objects old)
+      → CountsGrow old (with_objects objects old)
   by_window window is within =
       let same = ap (λ (w : WindowState). w.last) is in
       record { entries = omega arith; objects = omega (arith, same, within); commits = omega arith }
 
   -- the same of the window of this list
   by_list : (list : ObjLogState) → objects ≡ list → list.uploads.window.last ≤ old.objects.uploads.window.last + 1
-      → NumbersGrow old (with_objects objects old)
+      → CountsGrow old (with_objects objects old)
   by_list list is within = by_window list.uploads.window (ap (λ (o : ObjLogState). o.uploads.window) is) within
 
 module _ {R : Type 0} (old : VolumeState) (objects : ObjLogState) where
-  pub taken_grow : (reply : Reply R) → TakesLowestReady reply old.objects objects → NumbersGrow old (with_objects objects old)
+  pub taken_grow : (reply : Reply R) → TakesLowestReady reply old.objects objects → CountsGrow old (with_objects objects old)
   taken_grow (told.Taken job) taken = by_list old objects _ taken.2 (omega arith)
   taken_grow told.Nothing taken = by_list old objects old.objects taken.1 (omega arith)
   taken_grow reply taken = absurd taken
 
   pub returned_grow : (job : JobState) (reply : Reply R) → Returns job reply old.objects objects
-      → NumbersGrow old (with_objects objects old)
+      → CountsGrow old (with_objects objects old)
   returned_grow job told.Returned returned = by_list old objects _ returned.1 (omega arith)
   returned_grow job (told.NotReturned back) returned = by_list old objects old.objects returned.2 (omega arith)
   returned_grow job reply returned = absurd returned
 
   pub done_grow : (state : R → ReceiptState) (job : JobState) (receipt : R) (reply : Reply R)
-      → Finishes state job receipt reply old.objects objects → NumbersGrow old (with_objects objects old)
+      → Finishes state job receipt reply old.objects objects → CountsGrow old (with_objects objects old)
   done_grow state job receipt (told.Done frontier) done = by_window old objects _ done.1.window (omega arith)
   done_grow state job receipt (told.NotDone back given) done = by_list old objects old.objects done.3 (omega arith)
   done_grow state job receipt reply done = absurd done
 
-  pub sealed_grow : (reply : Reply R) → Seals reply old.objects objects → NumbersGrow old (with_objects objects old)
+  pub sealed_grow : (reply : Reply R) → Seals reply old.objects objects → CountsGrow old (with_objects objects old)
   sealed_grow (told.Sealed number) seals = by_window old objects _ seals.0.uploads.window (omega arith)
   sealed_grow told.Nothing seals = by_window old objects old.objects.uploads.window seals.0.uploads.window (omega arith)
   sealed_grow told.Busy seals = by_window old objects old.objects.uploads.window seals.0.uploads.window (omega arith)
@@ -95,33 +98,32 @@ module _ {R : Type 0} (old : VolumeState) (objects : ObjLogState) where
 -- ---- the counts are told
 
 pub status_steps : {R : Type 0} (state : R → ReceiptState) (volume : VolumeState) (batch : BatchState)
-    (writes sealed frontier : ℕ)
+    (writes sealed frontier newest : ℕ)
     → IsUploads volume.objects.uploads → batch ≡ volume.objects.batch
     → writes ≡ batch.first + length batch.entries → sealed ≡ volume.objects.uploads.window.last
-    → frontier ≡ volume.objects.uploads.queue.frontier
-    → StepsAsPlain state Status (told.Told writes sealed frontier volume.checkpoint) volume volume
-status_steps state volume batch writes sealed frontier uploads same writes_is sealed_is frontier_is plain shows =
+    → frontier ≡ volume.objects.uploads.queue.frontier → newest ≡ newest_checkpoint volume.objects.uploads.queue
+    → StepsAsPlain state Status (told.Told writes sealed frontier newest) volume volume
+status_steps state volume batch writes sealed frontier newest uploads same writes_is sealed_is frontier_is newest_is plain shows =
     let counts = shown_have_counts shows.data_at volume.objects plain uploads shows.valid shows.objects in
     let next : history_length plain ≡ writes =
     sym (writes_is ∙ (ap (λ (b : BatchState). b.first + length b.entries) same ∙ counts.next)) in
     let last : plain.window.last ≡ sealed = sym (sealed_is ∙ ap (λ (w : WindowState). w.last) shows.objects.window) in
     let reached : frontier_of plain ≡ frontier = sym (frontier_is ∙ counts.frontier) in
-    let newest : (sealed_checkpoint plain).number ≡ volume.checkpoint =
-    ap (λ (c : PlainCheckpoint). c.number) (sealed_is_first plain shows.alone) ∙ sym shows.checkpoint in
-    let tells : status_reply plain ≡ replies.Told writes sealed frontier volume.checkpoint = cc in
-    inl (quiet_step state Status (told.Told writes sealed frontier volume.checkpoint) plain volume volume events.Status shows refl
+    let newest_of : (sealed_checkpoint plain).number ≡ newest =
+    sym (newest_is ∙ newest_is_shown shows.data_at volume.objects plain uploads shows.valid
+    (record { objects = shows.objects; table = shows.table })) in
+    let tells : status_reply plain ≡ replies.Told writes sealed frontier newest = cc in
+    inl (quiet_step state Status (told.Told writes sealed frontier newest) plain volume volume events.Status shows refl
     tells shows
     refl refl)
 
 -- ---- the window changes
 
 window_changes : (plain : PlainState) (window : WindowState) (checkpoint : PlainCheckpoint) → IsPlainVolume plain
-    → frontier_of plain ≤ below_open window → checkpoint ≡ plain.checkpoint
+    → frontier_of plain ≤ below_open window
     → IsOfOtherObjects plain (record plain { window = window; checkpoint = checkpoint })
-window_changes plain window checkpoint valid grows same = record {
+window_changes plain window checkpoint valid grows = record {
   cache = refl;
-  pins = refl;
-  checkpoint = same;
   end = refl;
   entries = refl;
   frontier = ends_grow (stream_in plain) (frontier_of plain) (below_open window) valid.stream.ends grows;
@@ -157,14 +159,12 @@ seal_changes : (plain : PlainState) (seals : Bool) → IsPlainVolume plain
     → IsOfOtherObjects plain (cond seals (with_sealed plain) plain)
 seal_changes plain true valid = record {
   cache = refl;
-  pins = refl;
-  checkpoint = refl;
   end = refl;
   entries = refl;
   frontier = omega (arith, sealed_end plain valid);
 }
 seal_changes plain false valid =
-    record { cache = refl; pins = refl; checkpoint = refl; end = refl; entries = refl; frontier = omega arith }
+    record { cache = refl; end = refl; entries = refl; frontier = omega arith }
 
 -- ---- the objects change
 
@@ -173,7 +173,7 @@ module _ {R : Type 0} (state : R → ReceiptState) (old : VolumeState) (objects 
   abbrev changed : VolumeState
   changed = with_objects objects old
 
-  unchanged : (event : Event R) (reply : Reply R) (plain : PlainState) (asked : PlainEvent) → Shows old plain
+  pub unchanged : (event : Event R) (reply : Reply R) (plain : PlainState) (asked : PlainEvent) → Shows old plain
       → objects ≡ old.objects
       → plain_after asked plain ≡ plain → Asks state old event asked → Tells state old reply (plain_reply plain asked)
       → IsStep state event reply plain old changed
@@ -192,11 +192,12 @@ module _ {R : Type 0} (state : R → ReceiptState) (old : VolumeState) (objects 
       let shown =
       subst (λ o. ShowsObjects shows.data_at o (after_take plain)) (sym taken.2)
       (taken_shows_take shows.data_at old.objects plain number shows.objects taken.0) in
+      let table =
+      subst (λ (o : ObjLogState). ShowsTable o.uploads.queue (after_take plain)) (sym taken.2)
+      (taken_shows_table old.objects.uploads plain number shows.table) in
       let leaves = window_changes plain (window_after_take lowest plain.window) plain.checkpoint shows.valid
-      (take_leaves lowest plain.window) refl in
-      let now =
-      objects_shown old objects plain (after_take plain) shows leaves (take_keeps plain shows.valid)
-      (take_keeps_first plain shows.alone) shown in
+      (take_leaves lowest plain.window) in
+      let now = objects_shown old objects plain (after_take plain) shows leaves (take_keeps plain shows.valid) shown table in
       inl (quiet_step state TakeJob (told.Taken job) plain old changed events.TakeJob shows refl
       (ap reply_of_taken found, taken.1) now
       refl refl)
@@ -225,11 +226,14 @@ module _ {R : Type 0} (state : R → ReceiptState) (old : VolumeState) (objects 
       let shown =
       subst (λ o. ShowsObjects shows.data_at o (after_failed (Some number) plain)) (sym returned.1)
       (failed_shows_failed shows.data_at old.objects plain number shows.objects out.started) in
+      let table =
+      subst (λ (o : ObjLogState). ShowsTable o.uploads.queue (after_failed (Some number) plain)) (sym returned.1)
+      (failed_shows_table old.objects.uploads plain number shows.table) in
       let leaves = window_changes plain (window_after_failed (Some number) plain.window) plain.checkpoint shows.valid
-      (failed_leaves number plain.window) refl in
+      (failed_leaves number plain.window) in
       let now =
       objects_shown old objects plain (after_failed (Some number) plain) shows leaves
-      (failed_keeps plain (Some number) shows.valid) (failed_keeps_first (Some number) plain shows.alone) shown in
+      (failed_keeps plain (Some number) shows.valid) shown table in
       inl (quiet_step state (JobFailed job) told.Returned plain old changed (events.JobFailed (Some number)) shows
       (Some number, refl, (refl, out))
       (ap (λ b. cond b replies.Returned replies.Nothing) way) now refl refl)
@@ -241,10 +245,10 @@ module _ {R : Type 0} (state : R → ReceiptState) (old : VolumeState) (objects 
   -- ---- a put is done
 
   pub done_steps : (job : JobState) (receipt : R) (reply : Reply R)
-      → IsUploads old.objects.uploads
+      → IsUploads old.objects.uploads → IsUploads objects.uploads
       → IsReceiptFor job.bytes (state receipt) → Finishes state job receipt reply old.objects objects
       → StepsAsPlain state (JobDone job receipt) reply old changed
-  done_steps job receipt (told.Done frontier) uploads own done plain shows =
+  done_steps job receipt (told.Done frontier) uploads now_uploads own done plain shows =
       let number = job.name.number in
       let data_at = shows.data_at in
       let shown = shows.objects in
@@ -257,29 +261,31 @@ module _ {R : Type 0} (state : R → ReceiptState) (old : VolumeState) (objects 
       let grows = done_leaves number plain.window (omega (arith, counts.frontier, put.settled.frontier, later)) in
       let leaves =
       window_changes plain (window_after_done (Some number) plain.window) (checkpoint_after_done (Some number) plain) shows.valid
-      grows (checkpoint_stays (Some number) plain shows.alone) in
+      grows in
       let now =
       objects_shown old objects plain (after_done (Some number) plain) shows leaves (done_keeps plain (Some number) shows.valid)
-      (done_keeps_first (Some number) plain shows.alone)
       (done_shows_done data_at old.objects objects plain number job.bytes (state receipt) uploads shows.valid shown out own
-      put done.2) in
+      put done.2)
+      (done_shows_table data_at old.objects objects plain number job.bytes (state receipt) uploads now_uploads shows.valid
+      (record { objects = shown; table = shows.table }) out put) in
       let tells : done_reply plain (Some number) ≡ replies.Done frontier =
       ap (λ b. cond b (replies.Done (below_open (cond b (acknowledged number plain.window) plain.window))) replies.Nothing) way
       ∙ ap replies.Done (sym (done.3 ∙ later)) in
       inl (quiet_step state (JobDone job receipt) (told.Done frontier) plain old changed (events.JobDone (Some number)) shows
       (Some number, refl, (refl, out, done.0.1)) tells now refl refl)
-  done_steps job receipt (told.NotDone back given) uploads own done plain shows =
+  done_steps job receipt (told.NotDone back given) uploads now_uploads own done plain shows =
       inl (unchanged (JobDone job receipt) (told.NotDone back given) plain (events.JobDone None) shows done.3 refl
       (None, refl, done.0) refl)
-  done_steps job receipt reply uploads own done plain shows = absurd done
+  done_steps job receipt reply uploads now_uploads own done plain shows = absurd done
 
   -- ---- a seal
 
   -- the list changed but for room
   room_shown : (plain : PlainState) → Shows old plain → IsSame old.objects objects → Shows changed plain
   room_shown plain shows same =
-      objects_shown old objects plain plain shows (seal_changes plain false shows.valid) shows.valid shows.alone
+      objects_shown old objects plain plain shows (seal_changes plain false shows.valid) shows.valid
       (room_shows_same shows.data_at old.objects objects plain shows.objects same)
+      (room_shows_same_table old.objects objects plain same shows.table)
 
   refused : (reply : Reply R) (plain : PlainState) → Shows old plain → IsSame old.objects objects → after_seal plain ≡ plain
       → Tells state old reply (seal_reply plain) → IsStep state Seal reply plain old changed
@@ -296,8 +302,8 @@ module _ {R : Type 0} (state : R → ReceiptState) (old : VolumeState) (objects 
       seals.2 seals.3 in
       let leaves = seal_changes plain (has_unsealed plain && not (is_busy plain)) shows.valid in
       let now =
-      objects_shown old objects plain (after_seal plain) shows leaves (seal_keeps plain shows.valid)
-      (seal_keeps_first plain shows.alone) shown.0 in
+      objects_shown old objects plain (after_seal plain) shows leaves (seal_keeps plain shows.valid) shown.0
+      (sealed_shows_table old.objects objects plain seals.0 shows.table) in
       inl (quiet_step state Seal (told.Sealed number) plain old changed events.Seal shows refl (shown.1
       ∙ ap replies.Sealed (sym seals.1)) now
       refl leaves.cache)

@@ -2,9 +2,10 @@
 use Rattle.std.proofs.Common.{◌≡◌, ℕ, suc, ◌+◌, ◌-◌, ◌<◌, ◌≤◌, ◌==◌, inl, inr, Bool, true, cond, List, [], ◌∷◌, get_or, refl}
 use Rattle.std.proofs.Common.{sym, ◌∙◌, ap, subst, arith}
 use Rattle.std.specs.Prelude.{Option, Some, None}
-use Rattle.std.specs.List.{Contains, filter, list_any, range_with_len}
+use Rattle.std.specs.List.{All, Contains, filter, list_any, range_with_len}
 use Rattle.std.proofs.lemmas.Bool.{cases_eq, cases_lt, cases_order, cases_Bool}
 use Rattle.std.proofs.lemmas.Grind.{get_or_default_zero}
+use Rattle.std.proofs.lemmas.List.Elements.{All-contains_itself, All-weaker}
 use Rattle.std.proofs.lemmas.List.Folds.{list_any_at, Any-from_list_any}
 use Rattle.std.proofs.lemmas.List.FromFn.{length-range_with_len, get_or-range_with_len}
 use Rattle.std.proofs.lemmas.List.Kept.{AllPairs-filter, AllPairs-from_increasing}
@@ -25,20 +26,20 @@ use Rattle.object_uploads.specs.Image.{GivesSector}
 use Rattle.obj_log.specs.State.{ObjLogState}
 use Rattle.plain_disk.specs.State.{PlainState, frontier_of, image_now}
 use Rattle.plain_disk.specs.Reads.{is_read_from, objects_read}
+use Rattle.refine_objects.specs.Table.{times_pinned}
 use Rattle.read_plan.specs.Look.{AreObjectsIn}
-use Rattle.read_plan.specs.Pins.{times}
-use Rattle.read_plan.proofs.PinLemmas.{is_it, times_there, times_nowhere}
 use Rattle.vol_core.specs.Places.{IsHeldAt}
 use Rattle.vol_core.specs.ReadLaws.{ShowsReads}
 use Rattle.vol_core.proofs.HoldLemmas.{places_hold_sectors}
 use Rattle.vol_core.proofs.OwnerLemmas.{places_are_of_objects_read}
 use Rattle.vol_core.proofs.ShownLemmas.{image_has_sectors, counts}
-use Rattle.vol_core.proofs.PinCounts.{one_of, none_of, counted, Ascend, rest_ascend, times_of_ascending}
+use Rattle.vol_core.proofs.PinCounts.{is_it, one_of, none_of, counted, times_there, times_nowhere}
+use Rattle.vol_core.proofs.PinCounts.{Ascend, rest_ascend, times_of_ascending}
 
 -- ---- ascending numbers
 
 -- a number below the first is not among them
-none_below : (number first : ℕ) (rest : List ℕ) → Ascend (first ∷ rest) → number < first → times number (first ∷ rest) ≡ 0
+none_below : (number first : ℕ) (rest : List ℕ) → Ascend (first ∷ rest) → number < first → times_pinned number (first ∷ rest) ≡ 0
 none_below number first rest ascend below = times_nowhere number (first ∷ rest) (λ k inside is.
     elim (cases_lt 0 k) [
       | inl later ↦ (let h = ascend 0 k 0 later inside in omega (arith, h, is, below))
@@ -47,7 +48,8 @@ none_below number first rest ascend below = times_nowhere number (first ∷ rest
     ])
 
 -- those that have each number as often are the same
-same_ascending : (xs ys : List ℕ) → Ascend xs → Ascend ys → ((number : ℕ) → times number xs ≡ times number ys) → xs ≡ ys
+same_ascending : (xs ys : List ℕ) → Ascend xs → Ascend ys → ((number : ℕ) → times_pinned number xs ≡ times_pinned number ys)
+    → xs ≡ ys
 same_ascending [] [] a b same = refl
 same_ascending [] (y ∷ ys) a b same = (let h = same y in let c = counted y y ys in let one = one_of y y refl in
     absurd (omega (arith, h, c, one)))
@@ -83,11 +85,11 @@ same_ascending (x ∷ xs) (y ∷ ys) a b same =
 
 -- ---- members
 
-times_of_contained : (number : ℕ) (numbers : List ℕ) → Contains numbers number → 0 < times number numbers
+times_of_contained : (number : ℕ) (numbers : List ℕ) → Contains numbers number → 0 < times_pinned number numbers
 times_of_contained number numbers is = times_there number is.0 numbers is.1 (sym (get_or_default_zero numbers is.0 number is.1)
     ∙ is.2)
 
-contained_where_some : (number : ℕ) (numbers : List ℕ) → 0 < times number numbers → Contains numbers number
+contained_where_some : (number : ℕ) (numbers : List ℕ) → 0 < times_pinned number numbers → Contains numbers number
 contained_where_some number [] some = absurd (omega arith)
 contained_where_some number (first ∷ rest) some =
     let both = counted number first rest in
@@ -99,12 +101,13 @@ contained_where_some number (first ∷ rest) some =
           (suc more.0, (let h = more.1 in omega (arith, h)), more.2)
     ]
 
-kept_passes : (test : ℕ → Bool) (number : ℕ) (numbers : List ℕ) → 0 < times number (filter test numbers) → test number ≡ true
+kept_passes : (test : ℕ → Bool) (number : ℕ) (numbers : List ℕ) → 0 < times_pinned number (filter test numbers)
+    → test number ≡ true
 kept_passes test number [] some = absurd (omega arith)
 kept_passes test number (first ∷ rest) some =
     elim (cases_Bool (test first)) [
       | inl passes ↦
-          let kept = ap (λ b. times number (cond b (first ∷ filter test rest) (filter test rest))) passes in
+          let kept = ap (λ b. times_pinned number (cond b (first ∷ filter test rest) (filter test rest))) passes in
           let both = counted number first (filter test rest) in
           elim (cases_eq first number) [
             | inl same ↦ sym (ap test same) ∙ passes
@@ -112,19 +115,20 @@ kept_passes test number (first ∷ rest) some =
                 kept_passes test number rest (omega (arith, some, kept, both, none)))
           ]
       | inr fails ↦
-          let left = ap (λ b. times number (cond b (first ∷ filter test rest) (filter test rest))) fails in
+          let left = ap (λ b. times_pinned number (cond b (first ∷ filter test rest) (filter test rest))) fails in
           kept_passes test number rest (omega (arith, some, left))
     ]
 
-kept_where_passes : (test : ℕ → Bool) (number : ℕ) (numbers : List ℕ) → 0 < times number numbers → test number ≡ true
-    → 0 < times number (filter test numbers)
+kept_where_passes : (test : ℕ → Bool) (number : ℕ) (numbers : List ℕ) → 0 < times_pinned number numbers → test number ≡ true
+    → 0 < times_pinned number (filter test numbers)
 kept_where_passes test number [] some passes = absurd (omega arith)
 kept_where_passes test number (first ∷ rest) some passes =
     let before = counted number first rest in
     let both = counted number first (filter test rest) in
     elim (cases_eq first number) [
       | inl same ↦
-          let kept = ap (λ b. times number (cond b (first ∷ filter test rest) (filter test rest))) (ap test same ∙ passes) in
+          let kept = ap (λ b. times_pinned number (cond b (first ∷ filter test rest) (filter test rest)))
+          (ap test same ∙ passes) in
           let one = one_of number first same in
           omega (arith, kept, both, one)
       | inr apart ↦
@@ -132,24 +136,24 @@ kept_where_passes test number (first ∷ rest) some passes =
           let more = kept_where_passes test number rest (omega (arith, some, before, none)) passes in
           elim (cases_Bool (test first)) [
             | inl both_pass ↦
-                let kept = ap (λ b. times number (cond b (first ∷ filter test rest) (filter test rest))) both_pass in
+                let kept = ap (λ b. times_pinned number (cond b (first ∷ filter test rest) (filter test rest))) both_pass in
                 omega (arith, kept, both, more)
             | inr fails ↦
-                let left = ap (λ b. times number (cond b (first ∷ filter test rest) (filter test rest))) fails in
+                let left = ap (λ b. times_pinned number (cond b (first ∷ filter test rest) (filter test rest))) fails in
                 omega (arith, left, more)
           ]
     ]
 
 -- ---- ranges
 
-range_ascends : (from n : ℕ) → Ascend (range_with_len from n)
+pub range_ascends : (from n : ℕ) → Ascend (range_with_len from n)
 range_ascends from n = λ i j d less inside.
     let count = length-range_with_len from n in
     let a = get_or-range_with_len from n i d (omega (arith, less, inside, count)) in
     let b = get_or-range_with_len from n j d (omega (arith, inside, count)) in
     omega (arith, a, b, less)
 
-in_range : (from n number : ℕ) → from ≤ number → number < from + n → 0 < times number (range_with_len from n)
+in_range : (from n number : ℕ) → from ≤ number → number < from + n → 0 < times_pinned number (range_with_len from n)
 in_range from n number low high =
     let count = length-range_with_len from n in
     times_there number (number - from) (range_with_len from n) (omega (arith, count, low, high))
@@ -236,8 +240,8 @@ module _ (data_at : ℕ → ℕ) (objects : ObjLogState) (log : LogState) (plain
       (number.0, (let most = number.1 in omega (arith, most, reached)))
 
   read_where_in : (numbers : List ℕ) (number : ℕ) → AreObjectsIn lba sectors objects.uploads.queue.maps numbers
-      → 0 < times number numbers
-      → 0 < times number (objects_read plain lba sectors)
+      → 0 < times_pinned number numbers
+      → 0 < times_pinned number (objects_read plain lba sectors)
   read_where_in numbers number are some =
       let has = (are.each number).0 (contained_where_some number numbers some) in
       let to = has.to in
@@ -254,7 +258,7 @@ module _ (data_at : ℕ → ℕ) (objects : ObjLogState) (log : LogState) (plain
       (any_where (is_read_from plain number) lba sectors has.k has.from to reads)
 
   in_where_read : (numbers : List ℕ) (number : ℕ) → AreObjectsIn lba sectors objects.uploads.queue.maps numbers
-      → 0 < times number (objects_read plain lba sectors) → 0 < times number numbers
+      → 0 < times_pinned number (objects_read plain lba sectors) → 0 < times_pinned number numbers
   in_where_read numbers number are some =
       let any = kept_passes (λ n. list_any (is_read_from plain n) (range_with_len lba sectors)) number
       (range_with_len 1 (frontier_of plain)) some in
@@ -272,6 +276,19 @@ module _ (data_at : ℕ → ℕ) (objects : ObjLogState) (log : LogState) (plain
         has_number = placed.2;
       }))
 
+  -- each object of a plan has a sector that is read from it
+  pub each_is_read : (numbers : List ℕ) → AreObjectsIn lba sectors objects.uploads.queue.maps numbers
+      → All (λ number. (k : ℕ) × (is_read_from plain number k ≡ true)) numbers
+  each_is_read numbers are =
+      All-weaker (Contains numbers) (λ number. (k : ℕ) × (is_read_from plain number k ≡ true))
+      (λ number contained.
+      let has = (are.each number).0 contained in
+      let to = has.to in
+      let within : has.k < plain.geometry.sectors = omega (arith, to, inside) in (
+        has.k,
+        (places_are_of_objects_read data_at objects log plain has.k number shows within).0 (has.place, has.is, has.has_number),
+      )) numbers (All-contains_itself numbers)
+
   pub objects_are_read : (numbers : List ℕ) → AreObjectsIn lba sectors objects.uploads.queue.maps numbers
       → numbers ≡ objects_read plain lba sectors
   objects_are_read numbers are =
@@ -282,9 +299,9 @@ module _ (data_at : ℕ → ℕ) (objects : ObjLogState) (log : LogState) (plain
       same_ascending numbers (objects_read plain lba sectors) ascend read_ascend (λ number.
       let a = times_of_ascending number numbers ascend in
       let b = times_of_ascending number (objects_read plain lba sectors) read_ascend in
-      elim (cases_lt 0 (times number numbers)) [
+      elim (cases_lt 0 (times_pinned number numbers)) [
         | inl some ↦ (let h = read_where_in numbers number are some in omega (arith, a, b, h, some))
-        | inr none ↦ elim (cases_lt 0 (times number (objects_read plain lba sectors))) [
+        | inr none ↦ elim (cases_lt 0 (times_pinned number (objects_read plain lba sectors))) [
           | inl some ↦ (let h = in_where_read numbers number are some in absurd (omega (arith, h, none)))
           | inr also_none ↦ omega (arith, none, also_none)
         ]

@@ -7,13 +7,13 @@ use Rattle.std.proofs.lemmas.List.{drop-drop}
 use Rattle.lsvd_base.specs.declared.entry.Entry.{Entry}
 use Rattle.lsvd_device.specs.Calls.{Fuse}
 use Rattle.lsvd_objstore.specs.Store.{ReceiptState}
+use Rattle.upload_window.specs.Window.{WindowState}
 use Rattle.cache_log.specs.declared.row.Row.{Row}
 use Rattle.cache_log.specs.Log.{LogState, next_seq, AreRowsOf}
 use Rattle.obj_log.specs.State.{ObjLogState}
 use Rattle.plain_disk.specs.declared.event.PlainEvent.{PlainEvent}
 use Rattle.plain_disk.specs.Cache.{PlainCache}
-use Rattle.plain_disk.specs.State.{PlainState, PlainCheckpoint, frontier_of, frontier_end, logged_entries}
-use Rattle.plain_disk.specs.First.{HasFirstCheckpointAlone}
+use Rattle.plain_disk.specs.State.{PlainState, frontier_of, frontier_end, logged_entries}
 use Rattle.plain_disk.specs.Step.{plain_reply, plain_after}
 use Rattle.plain_disk.specs.Valid.{IsPlainVolume}
 use Rattle.plain_disk.proofs.EndLemmas.{ends_from}
@@ -21,7 +21,7 @@ use Rattle.refine_log.specs.Shows.{ShowsLog}
 use Rattle.refine_log.specs.Logged.{listed_from, HasLoggedEntries}
 use Rattle.refine_objects.specs.Shows.{ShowsObjects}
 use Rattle.refine_log.specs.Pending.{ShowsPending}
-use Rattle.read_plan.specs.Pins.{times}
+use Rattle.refine_objects.specs.Table.{ShowsTable}
 use Rattle.vol_core.specs.declared.event.Event.{Event}
 use Rattle.vol_core.specs.declared.reply.Reply.{Reply}
 use Rattle.vol_core.specs.Volume.{VolumeState, SteppedVolume}
@@ -29,6 +29,7 @@ use Rattle.vol_core.specs.Shows.{Shows, IsSmall, NumbersGrow, IsVolume, max_numb
 use Rattle.vol_core.specs.Events.{Asks, Tells}
 use Rattle.vol_core.specs.Step.{passing, IsStep, IsNoStep, StepsAsPlain, StepOf}
 use Rattle.vol_core.specs.Calls.{IsReadyForStep}
+use Rattle.vol_core.proofs.PinsGrow.{pins_grow}
 
 -- ---- other calls
 
@@ -70,11 +71,29 @@ quiet_step state event reply plain old new asked shows asks tells now same_log s
 
 -- ---- numbers
 
--- they do not grow where neither the log nor the objects change
-pub numbers_stay : (old new : VolumeState) → new.log ≡ old.log → new.objects ≡ old.objects → NumbersGrow old new
-numbers_stay old new same_log same_objects =
+-- the numbers grow by one entry, one object and two commits at most
+pub record CountsGrow (old new : VolumeState) : Type 0 where
+  pub entries : next_seq new.log ≤ next_seq old.log + 1
+  pub objects : new.objects.uploads.window.last ≤ old.objects.uploads.window.last + 1
+  pub commits : new.log.commits.number ≤ old.log.commits.number + 2
+
+-- and by a pin on each object, in each step
+pub numbers_grow : {R : Type 0} (state : R → ReceiptState) (event : Event R) (reply : Reply R) (old new : VolumeState)
+    (plain : PlainState)
+    → Shows old plain → StepsAsPlain state event reply old new → CountsGrow old new → NumbersGrow old new
+numbers_grow state event reply old new plain shows steps counts = record {
+  entries = counts.entries;
+  objects = counts.objects;
+  commits = counts.commits;
+  pins = pins_grow state event reply old new plain shows steps;
+}
+
+-- they do not grow where neither the log nor the window changes
+pub counts_stay : (old new : VolumeState) → new.log ≡ old.log → new.objects.uploads.window ≡ old.objects.uploads.window
+    → CountsGrow old new
+counts_stay old new same_log same_window =
     let next = ap next_seq same_log in
-    let last = ap (λ (o : ObjLogState). o.uploads.window.last) same_objects in
+    let last = ap (λ (w : WindowState). w.last) same_window in
     let number = ap (λ (l : LogState). l.commits.number) same_log in
     record { entries = omega (arith, next); objects = omega (arith, last); commits = omega (arith, number) }
 
@@ -88,6 +107,7 @@ small_of old new steps grow ready =
       entries = omega (arith, counted, small.entries, grow.entries);
       objects = omega (arith, counted, small.objects, grow.objects);
       commits = omega (arith, counted, small.commits, grow.commits);
+      pins = λ number. omega (arith, counted, small.pins number, grow.pins number);
     }
 
 -- ---- the invariant after a step
@@ -124,6 +144,7 @@ counted_keeps_volume state event reply old new was few step count =
         entries = omega (arith, count, small.entries, grow.entries);
         objects = omega (arith, count, small.objects, grow.objects);
         commits = omega (arith, count, small.commits, grow.commits);
+        pins = λ number. omega (arith, count, small.pins number, grow.pins number);
       };
     }
 
@@ -139,8 +160,6 @@ step_seen state event reply new inside seen same step =
 -- what becomes of the plain volume where only its objects change: the frontier does not go back
 pub record IsOfOtherObjects (plain now : PlainState) : Type 0 where
   pub cache : now.cache ≡ plain.cache
-  pub pins : now.pins ≡ plain.pins
-  pub checkpoint : now.checkpoint ≡ plain.checkpoint
   pub end : now.end ≡ plain.end
   pub entries : now.entries ≡ plain.entries
   pub frontier : frontier_end plain ≤ frontier_end now
@@ -198,16 +217,14 @@ with_objects objects volume = record volume { objects = objects }
 
 pub objects_shown : (old : VolumeState) (objects : ObjLogState) (plain now : PlainState) (shows : Shows old plain)
     → IsOfOtherObjects plain now
-    → IsPlainVolume now → HasFirstCheckpointAlone now → ShowsObjects shows.data_at objects now
+    → IsPlainVolume now → ShowsObjects shows.data_at objects now → ShowsTable objects.uploads.queue now
     → Shows (with_objects objects old) now
-objects_shown old objects plain now shows other valid alone shown = record {
+objects_shown old objects plain now shows other valid shown table = record {
   valid = valid;
   data_at = shows.data_at;
   objects = shown;
+  table = table;
   log = subst (λ (cache : PlainCache). ShowsLog old.log cache.log) (sym other.cache) shows.log;
   logged = later_logged shows.data_at old.log plain now shows.valid other shows.logged;
-  alone = alone;
-  checkpoint = shows.checkpoint ∙ ap (λ (c : PlainCheckpoint). c.number) (sym other.checkpoint);
-  pins = λ number. shows.pins number ∙ ap (times number) (sym other.pins);
   fuse = ap (λ (cache : PlainCache). cache.left) other.cache ∙ shows.fuse;
 }

@@ -1,36 +1,44 @@
 -- What the calls that an event makes leave of a volume is a step of the event.
-use Rattle.std.proofs.Common.{◌≡◌, ℕ, List, false, refl, sym, ap, subst}
+use Rattle.std.proofs.Common.{◌≡◌, ◌<◌, false, refl, sym, ap, subst}
+use Rattle.std.specs.List.{All}
+use Rattle.std.specs.List.Sorted.{IsStrictlyIncreasing}
+use Rattle.std.proofs.Math.Path.{subst₂}
 use Rattle.lsvd_fault.specs.Faults.{Counts}
 use Rattle.lsvd_objstore.specs.Store.{ReceiptState}
+use Rattle.object_table.specs.Table.{unpinned}
 use Rattle.object_uploads.specs.State.{JobState}
+use Rattle.object_uploads.specs.Removal.{UnpinsEach}
+use Rattle.batcher.specs.State.{BatchState}
 use Rattle.object_uploads.specs.Order.{IsUploads}
 use Rattle.object_uploads.specs.Image.{IsReceiptFor}
 use Rattle.obj_log.specs.State.{ObjLogState}
+use Rattle.plain_disk.specs.State.{PlainState}
+use Rattle.read_plan.specs.Plan.{PlanState}
 use Rattle.vol_core.specs.declared.event.Event.{Event}
-use Rattle.vol_core.specs.declared.event.Event.TheVariants.{Seal, TakeJob, JobDone, JobFailed}
+use Rattle.vol_core.specs.declared.event.Event.TheVariants.{Release, Seal, TakeJob, JobDone, JobFailed}
 use Rattle.vol_core.specs.declared.reply.Reply.{Reply}
 use Rattle.vol_core.specs.declared.reply.Reply.TheVariants as told
 use Rattle.vol_core.specs.Volume.{VolumeState}
-use Rattle.vol_core.specs.Shows.{NumbersGrow}
-use Rattle.vol_core.specs.Step.{StepsAsPlain, StepOf, HandsBack, HasItsBytes, KeepsBytes, tells_fault}
+use Rattle.vol_core.specs.Shows.{Shows, pins_on}
+use Rattle.vol_core.specs.Step.{StepOf, HandsBack, HasItsBytes, KeepsBytes, tells_fault, StepsAsPlain}
 use Rattle.vol_core.specs.Calls.{Seals, TakesLowestReady, Finishes, Returns}
-use Rattle.vol_core.proofs.StepLemmas.{with_objects, numbers_stay}
+use Rattle.vol_core.proofs.StepLemmas.{CountsGrow, numbers_grow, counts_stay, with_objects}
 use Rattle.vol_core.proofs.ObjectSteps.{seal_steps, taken_steps, done_steps, returned_steps}
 use Rattle.vol_core.proofs.ObjectSteps.{sealed_grow, taken_grow, done_grow, returned_grow}
 use Rattle.vol_core.proofs.BytesLemmas.{same_bytes, seal_keeps_bytes, taking_keeps_bytes, finishing_keeps_bytes}
 use Rattle.vol_core.proofs.BytesLemmas.{returning_keeps_bytes}
-use Rattle.vol_core.proofs.ReleaseSteps.{with_pins}
-use Rattle.vol_core.proofs.StopSteps.{IsOfSameVolume, objects_keep, still, still_keeps}
+use Rattle.vol_core.proofs.ReleaseSteps.{pins_leave, released_steps, not_released_steps}
+use Rattle.vol_core.proofs.StopSteps.{IsOfSameVolume, objects_keep}
 
 -- what a call of the list tells, beside the step of the plain volume
-record IsOfList {R : Type 0} (event : Event R) (reply : Reply R) (old new : ObjLogState) : Type 0 where
-  same : IsOfSameVolume old new
-  back : HandsBack event reply
-  quiet : tells_fault reply ≡ false
+pub record IsOfList {R : Type 0} (event : Event R) (reply : Reply R) (old new : ObjLogState) : Type 0 where
+  pub same : IsOfSameVolume old new
+  pub back : HandsBack event reply
+  pub quiet : tells_fault reply ≡ false
 
 -- ---- each call
 
-same_list : (old new : ObjLogState) → new ≡ old → IsOfSameVolume old new
+pub same_list : (old new : ObjLogState) → new ≡ old → IsOfSameVolume old new
 same_list old new is = subst (IsOfSameVolume old) (sym is) (record { uuid = refl; geometry = refl })
 
 sealed_list : {R : Type 0} (reply : Reply R) (old new : ObjLogState) → Seals reply old new → IsOfList Seal reply old new
@@ -79,20 +87,23 @@ returned_list job reply old new returned = absurd returned
 
 -- ---- the volume with that list
 
-module _ {R : Type 0} (state : R → ReceiptState) (old : VolumeState) (objects : ObjLogState) where
-  step_of_list : (event : Event R) (reply : Reply R) → IsOfList event reply old.objects objects → HasItsBytes event reply
-      → StepsAsPlain state event reply old (with_objects objects old) → NumbersGrow old (with_objects objects old)
+-- it has this plain volume, among others
+module _ {R : Type 0} (state : R → ReceiptState) (old : VolumeState) (objects : ObjLogState) (plain : PlainState)
+    (shows : Shows old plain) where
+  pub step_of_list : (event : Event R) (reply : Reply R) → IsOfList event reply old.objects objects → HasItsBytes event reply
+      → StepsAsPlain state event reply old (with_objects objects old) → CountsGrow old (with_objects objects old)
       → KeepsBytes old (with_objects objects old) → StepOf state event reply old (with_objects objects old)
-  step_of_list event reply list plan step numbers bytes =
-      let count = old.log.commits.disk.faults in
+  step_of_list event reply list plan steps counts bytes =
+      let new : VolumeState = with_objects objects old in
+      let faults = old.log.commits.disk.faults in
       record {
-        step = step;
+        step = steps;
         back = list.back;
         plan = plan;
         sizes = record { geometry = list.same.geometry; uuid = list.same.uuid };
-        numbers = numbers;
+        numbers = numbers_grow state event reply old new plain shows steps counts;
         stops = objects_keep event old objects list.same;
-        faults = subst (λ failed. Counts failed count count) (sym list.quiet) refl;
+        faults = subst (λ failed. Counts failed faults faults) (sym list.quiet) refl;
         bytes = bytes;
       }
 
@@ -111,12 +122,13 @@ module _ {R : Type 0} (state : R → ReceiptState) (old : VolumeState) (objects 
       (taken_grow old objects reply taken) (taking_keeps_bytes old objects reply taken)
 
   pub step_of_done : (job : JobState) (receipt : R) (reply : Reply R)
-      → IsUploads old.objects.uploads → IsReceiptFor job.bytes (state receipt)
+      → IsUploads old.objects.uploads → IsUploads objects.uploads → IsReceiptFor job.bytes (state receipt)
       → Finishes state job receipt reply old.objects objects
       → StepOf state (JobDone job receipt) reply old (with_objects objects old)
-  step_of_done job receipt reply uploads own done =
+  step_of_done job receipt reply uploads now_uploads own done =
       step_of_list (JobDone job receipt) reply (done_list state job receipt reply old.objects objects done) tt
-      (done_steps state old objects job receipt reply uploads own done) (done_grow old objects state job receipt reply done)
+      (done_steps state old objects job receipt reply uploads now_uploads own done)
+      (done_grow old objects state job receipt reply done)
       (finishing_keeps_bytes old objects state job receipt reply done uploads)
 
   pub step_of_return : (job : JobState) (reply : Reply R) → Returns job reply old.objects objects
@@ -126,23 +138,41 @@ module _ {R : Type 0} (state : R → ReceiptState) (old : VolumeState) (objects 
       (returned_steps state old objects job reply returned) (returned_grow old objects job reply returned)
       (returning_keeps_bytes old objects job reply returned)
 
--- ---- the volume with other pins at most
+  -- ---- a plan
 
--- neither the list nor the log changes
-pub step_of_pins : {R : Type 0} (state : R → ReceiptState) (event : Event R) (reply : Reply R) (old : VolumeState)
-    (pins : List ℕ)
-    → StepsAsPlain state event reply old (with_pins pins old) → HandsBack event reply → HasItsBytes event reply
-    → tells_fault reply ≡ false → StepOf state event reply old (with_pins pins old)
-step_of_pins state event reply old pins step back plan quiet =
-    let new : VolumeState = with_pins pins old in
-    let count = old.log.commits.disk.faults in
-    record {
-      step = step;
-      back = back;
-      plan = plan;
-      sizes = record { geometry = refl; uuid = refl };
-      numbers = numbers_stay old new refl refl;
-      stops = still_keeps event old new (record { uuid = refl; geometry = refl }) (still old.log);
-      faults = subst (λ failed. Counts failed count count) (sym quiet) refl;
-      bytes = same_bytes old new refl refl;
-    }
+  -- it is given back
+  pub step_of_release : (given : PlanState) → IsUploads old.objects.uploads → IsStrictlyIncreasing given.objects
+      → All (λ number. 0 < pins_on old number) given.objects
+      → UnpinsEach given.objects old.objects.uploads objects.uploads → objects.batch ≡ old.objects.batch
+      → StepOf state (Release given) told.Released old (with_objects objects old)
+  step_of_release given uploads ascend some out batch =
+      let left = pins_leave unpinned given.objects old.objects.uploads objects.uploads out in
+      let new : VolumeState = with_objects objects old in
+      let geometry = ap (λ (b : BatchState). b.geometry) batch in
+      step_of_list (Release given) told.Released
+      (record { same = record { uuid = left.uuid; geometry = geometry }; back = tt; quiet = refl }) tt
+      (released_steps state given old objects uploads ascend some out batch) (counts_stay old new refl left.window)
+      (same_bytes old new left.sealed left.frontier)
+
+-- ---- the volume as it was
+
+-- nothing changes
+pub step_of_same : {R : Type 0} (state : R → ReceiptState) (event : Event R) (reply : Reply R) (volume : VolumeState)
+    (plain : PlainState)
+    → Shows volume plain → StepsAsPlain state event reply volume volume → HandsBack event reply → HasItsBytes event reply
+    → tells_fault reply ≡ false → StepOf state event reply volume volume
+step_of_same state event reply volume plain shows steps back plan quiet =
+    step_of_list state volume volume.objects plain shows event reply
+    (record { same = same_list volume.objects volume.objects refl; back = back; quiet = quiet }) plan steps
+    (counts_stay volume volume refl refl) (same_bytes volume volume refl refl)
+
+-- a plan comes back one of whose objects is not pinned
+pub step_of_kept_plan : {R : Type 0} (state : R → ReceiptState) (old : VolumeState) (objects : ObjLogState) (plain : PlainState)
+    → Shows old plain → (given back : PlanState) → IsStrictlyIncreasing given.objects
+    → (All (λ number. 0 < pins_on old number) given.objects → ⊥)
+    → back ≡ given → objects ≡ old.objects
+    → StepOf state (Release given) (told.NotReleased back) old (with_objects objects old)
+step_of_kept_plan state old objects plain shows given back ascend none same same_objects =
+    subst₂ (λ b o. StepOf state (Release given) (told.NotReleased b) old (with_objects o old)) (sym same) (sym same_objects)
+    (step_of_same state (Release given) (told.NotReleased given) old plain shows
+    (not_released_steps state given old ascend none) refl tt refl)

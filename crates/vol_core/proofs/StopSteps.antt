@@ -1,5 +1,5 @@
 -- What a stop keeps at each moment of a step.
-use Rattle.std.proofs.Common.{◌≡◌, ℕ, Bool, true, List, [], refl, sym, ◌∙◌, subst, inl, inr}
+use Rattle.std.proofs.Common.{◌≡◌, ℕ, Bool, true, [], refl, sym, ◌∙◌, subst, inl, inr}
 use Rattle.std.specs.Prelude.{Option, Some, None, OnSome, Result, Ok, Err}
 use Rattle.lsvd_base.specs.declared.entry.Entry.{Entry}
 use Rattle.lsvd_base.specs.declared.entry.Entry.TheVariants as entries
@@ -109,11 +109,6 @@ pub read_is_still : (lba sectors : ℕ) (maps : MapsState) (are_made : Bool) (ol
     → IsStill old new
 read_is_still lba sectors maps are_made old new is =
     record { same = is.reads.same; commits = is.reads.commits; moments = is.reads.moments }
-
-pub look_keeps : {R : Type 0} (event : Event R) (old : VolumeState) (log : LogState) (pins : List ℕ) → IsStill old.log log
-    → StepKeeps event old (record old { log = log; pins = pins })
-look_keeps event old log pins is =
-    still_keeps event old (record old { log = log; pins = pins }) (record { uuid = refl; geometry = refl }) is
 
 -- ---- only the objects change
 

@@ -20,6 +20,8 @@ use Rattle.lsvd_objstore.specs.Store.{ReceiptState}
 use Rattle.upload_window.specs.Window.{lowest_ready}
 use Rattle.object_uploads.specs.State.{JobState}
 use Rattle.object_uploads.specs.Changes.{with_job, IsJobOf, IsOut, IsPutDone}
+use Rattle.object_uploads.specs.Checkpoint.{HasSealedCheckpoint}
+use Rattle.object_uploads.specs.Removal.{IsRemovedNext, TakesRemoval, FinishesRemoval, TakesBackRemoval}
 use Rattle.lsvd_base.specs.Limits.{is_within_limits}
 use Rattle.log_room.specs.Room.{max_log, record_sectors}
 use Rattle.lsvd_base.specs.declared.entry.Entry.TheVariants as entries
@@ -184,3 +186,50 @@ Returns job replies.Returned old new =
     IsOut old.uploads job.name.number job.bytes × (new ≡ record old { uploads = with_job job.name.number false old.uploads })
 Returns job (replies.NotReturned back) old new = (IsOut old.uploads job.name.number job.bytes → ⊥) × (back ≡ job) × (new ≡ old)
 Returns job reply old new = ⊥
+
+-- ---- checkpoints and removals
+
+-- a checkpoint was to be sealed
+abbrev pub SealsCheckpoint : {R : Type 0} → Reply R → (old new : ObjLogState) → Type 0
+SealsCheckpoint (replies.Sealed number) old new =
+    HasSealedCheckpoint old.uploads new.uploads × (new.batch ≡ old.batch) × (number ≡ old.uploads.window.last + 1)
+    × (length old.uploads.window.objects ≡ 16 → ⊥)
+SealsCheckpoint replies.Busy old new = (new ≡ old) × (length old.uploads.window.objects ≡ 16)
+SealsCheckpoint replies.OutOfMemory old new = IsSame old new × (length old.uploads.window.objects ≡ 16 → ⊥)
+SealsCheckpoint reply old new = ⊥
+
+-- the removal of an object began, whose receipt this is
+pub record BeginsRemoval (receipt : ReceiptState) (old new : ObjLogState) : Type 0 where
+  pub next : IsRemovedNext old.uploads.queue.removal old.uploads.queue.maps.objects (Some receipt.name.number)
+  pub named : receipt.name ≡ object_name (expected_of_volume old) receipt.name.number
+  pub taken : TakesRemoval receipt.name.number receipt old.uploads new.uploads
+  pub batch : new.batch ≡ old.batch
+
+-- the lowest removable object was asked for
+abbrev pub TakesLowestRemovable : {R : Type 0} → (R → ReceiptState) → Reply R → (old new : ObjLogState) → Type 0
+TakesLowestRemovable state (replies.Removing receipt) old new = BeginsRemoval (state receipt) old new
+TakesLowestRemovable state replies.Nothing old new =
+    IsRemovedNext old.uploads.queue.removal old.uploads.queue.maps.objects None × (new ≡ old)
+TakesLowestRemovable state reply old new = ⊥
+
+-- a removal that is done was told
+abbrev pub FinishesRemoving : {R : Type 0} → (number : ℕ) → Reply R → (old new : ObjLogState) → Type 0
+FinishesRemoving number replies.Removed old new =
+    (old.uploads.queue.removal ≡ Some number) × FinishesRemoval number old.uploads new.uploads × (new.batch ≡ old.batch)
+FinishesRemoving number replies.Nothing old new = (old.uploads.queue.removal ≡ Some number → ⊥) × (new ≡ old)
+FinishesRemoving number reply old new = ⊥
+
+-- a receipt is that of the object whose removal is out
+abbrev pub IsOutBy : ReceiptState → ObjLogState → Type 0
+IsOutBy receipt objects =
+    (objects.uploads.queue.removal ≡ Some receipt.name.number)
+    × (receipt.name ≡ object_name (expected_of_volume objects) receipt.name.number)
+
+-- and one that failed, which this receipt was given out for
+abbrev pub GivesBackRemoval : {R : Type 0} → (R → ReceiptState) → R → Reply R → (old new : ObjLogState) → Type 0
+GivesBackRemoval state receipt replies.GivenBack old new =
+    IsOutBy (state receipt) old
+    × TakesBackRemoval (state receipt).name.number (state receipt) old.uploads new.uploads × (new.batch ≡ old.batch)
+GivesBackRemoval state receipt (replies.NotGivenBack back) old new =
+    (IsOutBy (state receipt) old → ⊥) × (back ≡ receipt) × (new ≡ old)
+GivesBackRemoval state receipt reply old new = ⊥

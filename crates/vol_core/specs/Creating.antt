@@ -1,5 +1,5 @@
 -- Contract: what a volume is that was just created, what its creation asks of the device, and how that ends.
-use Rattle.std.specs.Prelude.{◌≡◌, ℕ, Bool, true, false, Result, IfOk, IfErr, List}
+use Rattle.std.specs.Prelude.{◌≡◌, ℕ, Bool, true, false, None, Result, IfOk, IfErr, List, [], ◌∷◌}
 use Rattle.lsvd_base.specs.declared.geometry.Geometry.{Geometry}
 use Rattle.lsvd_fault.specs.declared.stream.Failed.{Failed}
 use Rattle.lsvd_device.specs.Device.{DiskState, IsDisk}
@@ -8,6 +8,9 @@ use Rattle.lsvd_device.specs.Stop.{HasNow}
 use Rattle.commit_slot.specs.Formatting.{format_cost, format_calls}
 use Rattle.commit_slot.specs.Sequence.{Costs}
 use Rattle.cache_log.specs.Committed.{first_body}
+use Rattle.object_table.specs.Table.{new_row}
+use Rattle.object_uploads.specs.Order.{IsUploads}
+use Rattle.obj_log.specs.State.{ObjLogState}
 use Rattle.stopped_volume.specs.Device.{owner_with}
 use Rattle.plain_disk.specs.State.{created_volume}
 use Rattle.refine_log.specs.Fuses.{fuse_in}
@@ -17,6 +20,24 @@ use Rattle.vol_core.specs.Step.{passing}
 use Rattle.vol_core.specs.View.{PendsAs, volume_disk}
 use Rattle.vol_core.specs.Stops.{HasOwnCommits}
 
+-- The list of a volume that is created: its first object, a checkpoint of no sectors, is acknowledged, and there is no other and
+-- no entry.
+pub record IsNewList (uuid : List ℕ) (geometry : Geometry) (objects : ObjLogState) : Type 0 where
+  pub uuid_is : objects.uploads.uuid ≡ uuid
+  pub batch : objects.batch
+      ≡ record { geometry = geometry; first = 0; entries = []; reserved = objects.batch.reserved }
+  pub order : IsUploads objects.uploads
+  pub sectors : objects.uploads.sectors ≡ geometry.sectors
+  pub window : objects.uploads.window ≡ record { last = 1; objects = [] }
+  pub frontier : objects.uploads.queue.frontier ≡ 1
+  pub end : objects.uploads.queue.end ≡ 0
+  pub sealed : objects.uploads.queue.sealed ≡ []
+  pub removal : objects.uploads.queue.removal ≡ None
+  pub settled : objects.uploads.queue.maps.settled.rows ≡ []
+  pub log : objects.uploads.queue.maps.log.rows ≡ []
+  pub objects_are : objects.uploads.queue.maps.objects.rows ≡ new_row 1 0 0 ∷ []
+  pub checkpoint : objects.uploads.queue.maps.objects.checkpoint ≡ 1
+
 -- It shows the plain volume that was just created, whose device passes the calls that its own does, has made no step, and its
 -- last commit has the number 0 and is of epoch 0.
 pub record IsCreated (uuid : List ℕ) (geometry : Geometry) (stepped : SteppedVolume) : Type 0 where
@@ -24,6 +45,7 @@ pub record IsCreated (uuid : List ℕ) (geometry : Geometry) (stepped : SteppedV
   pub uuid_is : stepped.volume.objects.uploads.uuid ≡ uuid
   pub number : stepped.volume.log.commits.number ≡ 0
   pub own : HasOwnCommits (owner_with uuid 0) stepped.volume
+  pub list : IsNewList uuid geometry stepped.volume.objects
   pub shows : Shows stepped.volume (passing (fuse_in stepped.volume.log.commits.disk.budget) (created_volume geometry))
 
 -- the device is formatted, and asked for nothing else

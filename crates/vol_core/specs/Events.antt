@@ -1,5 +1,5 @@
 -- Contract: what an event asks of the plain volume, and which of its replies a reply tells.
-use Rattle.std.specs.Prelude.{◌≡◌, ℕ, Option, Some, None, IfSome}
+use Rattle.std.specs.Prelude.{◌≡◌, ℕ, ◌⊎◌, Option, Some, None, IfSome}
 use Rattle.lsvd_objstore.specs.Store.{ReceiptState}
 use Rattle.object_stream.specs.Replay.{object_name}
 use Rattle.object_uploads.specs.State.{JobState}
@@ -14,7 +14,7 @@ use Rattle.plain_disk.specs.declared.event.PlainReply.TheVariants as replies
 use Rattle.plain_disk.specs.declared.event.PlannedRead.{PlannedRead}
 use Rattle.vol_core.specs.declared.event.Event.{Event}
 use Rattle.vol_core.specs.declared.event.Event.TheVariants.{Write, Zero, Flush, Look, Release, Seal, TakeJob, JobDone, JobFailed}
-use Rattle.vol_core.specs.declared.event.Event.TheVariants.{Status}
+use Rattle.vol_core.specs.declared.event.Event.TheVariants.{SealCheckpoint, TakeRemove, RemoveDone, RemoveFailed, Status}
 use Rattle.vol_core.specs.declared.reply.EntryRefusal.{EntryRefusal}
 use Rattle.vol_core.specs.declared.reply.EntryRefusal.TheVariants as refusals
 use Rattle.vol_core.specs.declared.reply.Reply.{Reply}
@@ -37,6 +37,14 @@ IsOfDonePut volume job receipt (Some number) =
     (number ≡ job.name.number) × IsOut volume.objects.uploads number job.bytes
     × (receipt.name ≡ object_name (expected_of_volume volume.objects) number)
 
+-- A receipt that comes back is of the removal of this number, whose object it names; or it names no object of the volume, and no
+-- removal of this number is out.
+abbrev pub IsOfRemoval : VolumeState → ReceiptState → (number : ℕ) → Type 0
+IsOfRemoval volume receipt number =
+    (receipt.name ≡ object_name (expected_of_volume volume.objects) number)
+    ⊎ (((other : ℕ) → receipt.name ≡ object_name (expected_of_volume volume.objects) other → ⊥)
+    × (volume.objects.uploads.queue.removal ≡ Some number → ⊥))
+
 -- an event of a volume asks for that of the plain volume
 abbrev pub Asks : {R : Type 0} → (R → ReceiptState) → VolumeState → Event R → PlainEvent → Type 0
 Asks state volume (Write lba body) event = event ≡ events.Write lba body
@@ -49,6 +57,11 @@ Asks state volume TakeJob event = event ≡ events.TakeJob
 Asks state volume (JobDone job receipt) event = (put : Option ℕ) × (event ≡ events.JobDone put)
     × IsOfDonePut volume job (state receipt) put
 Asks state volume (JobFailed job) event = (put : Option ℕ) × (event ≡ events.JobFailed put) × IsOfPut volume job put
+Asks state volume SealCheckpoint event = event ≡ events.SealCheckpoint
+Asks state volume TakeRemove event = event ≡ events.TakeRemove
+Asks state volume (RemoveDone number) event = event ≡ events.RemoveDone number
+Asks state volume (RemoveFailed receipt) event = (number : ℕ) × (event ≡ events.RemoveFailed number)
+    × IsOfRemoval volume (state receipt) number
 Asks state volume Status event = event ≡ events.Status
 
 -- ---- replies
@@ -68,7 +81,7 @@ pub record TellsRead (volume : VolumeState) (plan : PlanState) (read : PlannedRe
   pub objects : plan.objects ≡ read.objects
   pub gives : IfSome volume.log.entries (λ list. Gives plan read.data)
 
--- a reply tells one of the plain volume; a job is that of the number
+-- a reply tells one of the plain volume; a job is that of the number, and a receipt that of its object
 abbrev pub Tells : {R : Type 0} → (R → ReceiptState) → VolumeState → Reply R → PlainReply → Type 0
 Tells state volume (told.Entered count) reply = reply ≡ replies.Entered count
 Tells state volume (told.NotEntered entry why) reply = TellsRefusal why reply
@@ -84,6 +97,12 @@ Tells state volume (told.Done frontier) reply = reply ≡ replies.Done frontier
 Tells state volume (told.NotDone job receipt) reply = reply ≡ replies.Nothing
 Tells state volume told.Returned reply = reply ≡ replies.Returned
 Tells state volume (told.NotReturned job) reply = reply ≡ replies.Nothing
+Tells state volume (told.Removing receipt) reply =
+    (reply ≡ replies.Removing (state receipt).name.number)
+    × ((state receipt).name ≡ object_name (expected_of_volume volume.objects) (state receipt).name.number)
+Tells state volume told.Removed reply = reply ≡ replies.Removed
+Tells state volume told.GivenBack reply = reply ≡ replies.GivenBack
+Tells state volume (told.NotGivenBack receipt) reply = reply ≡ replies.Nothing
 Tells state volume (told.Told writes sealed frontier checkpoint) reply = reply ≡ replies.Told writes sealed frontier checkpoint
 Tells state volume told.Range reply = reply ≡ replies.Range
 Tells state volume told.Nothing reply = reply ≡ replies.Nothing

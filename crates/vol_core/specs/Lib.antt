@@ -1,5 +1,6 @@
 pub mod Volume
 pub mod Shows
+pub mod Opening
 pub mod Events
 pub mod Step
 pub mod Creating

@@ -2,30 +2,29 @@
 use Rattle.std.specs.Prelude.{◌≡◌, ℕ, ◌+◌, ◌*◌, ◌^◌, ◌≤◌}
 use Rattle.cache_log.specs.Log.{next_seq}
 use Rattle.cache_log.specs.Committed.{IsOnDisk}
+use Rattle.object_table.specs.Table.{row_of}
+use Rattle.object_uploads.specs.Queue.{pins_of}
 use Rattle.object_uploads.specs.Order.{IsUploads}
 use Rattle.plain_disk.specs.State.{PlainState}
-use Rattle.plain_disk.specs.First.{HasFirstCheckpointAlone}
 use Rattle.plain_disk.specs.Valid.{IsPlainVolume}
 use Rattle.refine_log.specs.Shows.{ShowsLog}
 use Rattle.refine_log.specs.Fuses.{fuse_in}
 use Rattle.refine_log.specs.Logged.{HasLoggedEntries}
 use Rattle.refine_objects.specs.Shows.{ShowsObjects}
-use Rattle.read_plan.specs.Pins.{times}
+use Rattle.refine_objects.specs.Table.{ShowsTable}
 use Rattle.vol_core.specs.Volume.{VolumeState, SteppedVolume}
 
--- A volume shows a plain volume: the list of its entries and objects shows those, the log on its cache shows the plain log, the
--- same objects are pinned, and the device passes the calls that the plain one does, where it tells them. It makes no checkpoint
--- and removes no object. So numbers and counts are the plain volume's always, and bytes where the device and the receipts tell
--- them.
+-- A volume shows a plain volume: the list of its entries and objects shows those, and the table of its objects which of them
+-- stand in the store, which are pinned, and what the newest checkpoint maps; the log on its cache shows the plain log, and the
+-- device passes the calls that the plain one does, where it tells them. So numbers and counts are the plain volume's always, and
+-- bytes where the device and the receipts tell them.
 pub record Shows (volume : VolumeState) (plain : PlainState) : Type 0 where
   pub valid : IsPlainVolume plain
   pub data_at : ℕ → ℕ
   pub objects : ShowsObjects data_at volume.objects plain
+  pub table : ShowsTable volume.objects.uploads.queue plain
   pub log : ShowsLog volume.log plain.cache.log
   pub logged : HasLoggedEntries data_at volume.log plain
-  pub alone : HasFirstCheckpointAlone plain
-  pub checkpoint : volume.checkpoint ≡ plain.checkpoint.number
-  pub pins : (number : ℕ) → times number volume.pins ≡ times number plain.pins
   pub fuse : plain.cache.left ≡ fuse_in volume.log.commits.disk.budget
 
 -- ---- numbers
@@ -34,17 +33,24 @@ pub record Shows (volume : VolumeState) (plain : PlainState) : Type 0 where
 abbrev pub max_number : ℕ
 max_number = 2 ^ 60
 
--- the numbers of a volume that has made so many steps: one adds an entry and an object at most, and two commits
+-- how often the object of a number is pinned by plans of reads
+abbrev pub pins_on : VolumeState → (number : ℕ) → ℕ
+pins_on volume number = pins_of (row_of number volume.objects.uploads.queue.maps.objects.rows)
+
+-- the numbers of a volume that has made so many steps: one adds an entry and an object at most, two commits, and a pin to each
+-- object
 pub record IsSmall (volume : VolumeState) (steps : ℕ) : Type 0 where
   pub entries : next_seq volume.log ≤ max_number + steps
   pub objects : volume.objects.uploads.window.last ≤ max_number + steps
   pub commits : volume.log.commits.number ≤ max_number + 2 * steps
+  pub pins : (number : ℕ) → pins_on volume number ≤ steps
 
--- a step adds an entry and an object at most, and makes two commits at most
+-- a step adds an entry and an object at most, makes two commits at most, and pins each object once at most
 pub record NumbersGrow (old new : VolumeState) : Type 0 where
   pub entries : next_seq new.log ≤ next_seq old.log + 1
   pub objects : new.objects.uploads.window.last ≤ old.objects.uploads.window.last + 1
   pub commits : new.log.commits.number ≤ old.log.commits.number + 2
+  pub pins : (number : ℕ) → pins_on new number ≤ pins_on old number + 1
 
 -- what holds of each volume
 pub record IsVolume (stepped : SteppedVolume) : Type 0 where

@@ -18,6 +18,7 @@ use Rattle.plain_disk.specs.Step.{plain_reply, plain_after, is_refusal}
 use Rattle.refine_log.specs.Fuses.{fuse_in}
 use Rattle.vol_core.specs.declared.event.Event.{Event}
 use Rattle.vol_core.specs.declared.event.Event.TheVariants.{Write, Zero, Flush, Look, Release, Seal, JobDone, JobFailed}
+use Rattle.vol_core.specs.declared.event.Event.TheVariants.{SealCheckpoint, RemoveFailed}
 use Rattle.vol_core.specs.declared.reply.EntryRefusal.TheVariants as refusals
 use Rattle.vol_core.specs.declared.reply.Reply.{Reply}
 use Rattle.vol_core.specs.declared.reply.Reply.TheVariants as told
@@ -58,6 +59,7 @@ may_lack_memory (Write lba body) = true
 may_lack_memory (Zero lba sectors) = true
 may_lack_memory (Look lba sectors) = true
 may_lack_memory Seal = true
+may_lack_memory SealCheckpoint = true
 may_lack_memory event = false
 
 abbrev pub lacks_memory : {R : Type 0} → Reply R → Bool
@@ -86,6 +88,7 @@ HandsBack (Zero lba sectors) (told.NotEntered entry why) = entry ≡ entries.Zer
 HandsBack (Release plan) (told.NotReleased back) = back ≡ plan
 HandsBack (JobDone job receipt) (told.NotDone back given) = (back ≡ job) × (given ≡ receipt)
 HandsBack (JobFailed job) (told.NotReturned back) = back ≡ job
+HandsBack (RemoveFailed receipt) (told.NotGivenBack back) = back ≡ receipt
 HandsBack event reply = Unit {0}
 
 -- ---- a plan
@@ -159,7 +162,8 @@ KeepsBytes old new =
 -- ---- what a step promises
 
 -- What a step is of an event: its reply, and the volume after it. It is one of the plain volume, hands back what it did not use,
--- and gives a plan all its bytes. It changes no size, and lets the numbers grow by one entry, one object and two commits at most.
+-- and gives a plan all its bytes. It changes no size, and lets the numbers grow by one entry, one object, two commits and a pin
+-- on each object at most.
 -- A stop at each of its moments leaves a commit of the plain volume before it, a failed call is counted once and told, and bytes
 -- on their way stay.
 pub record StepOf {R : Type 0} (state : R → ReceiptState) (event : Event R) (reply : Reply R) (old new : VolumeState) :

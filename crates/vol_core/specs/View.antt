@@ -1,6 +1,6 @@
 -- Contract: what a caller sees of a volume beside its steps and the plain volumes that it shows: its sizes, its uuid, its device,
 -- and what is on its way from the device to the store. Contracts above the volume and its mounts name no more of it.
-use Rattle.std.specs.Prelude.{ℕ, List, Option}
+use Rattle.std.specs.Prelude.{◌≡◌, ℕ, List, Option}
 use Rattle.lsvd_base.specs.declared.entry.Entry.{Entry}
 use Rattle.lsvd_base.specs.declared.geometry.Geometry.{Geometry}
 use Rattle.lsvd_device.specs.Device.{DiskState}
@@ -13,6 +13,7 @@ use Rattle.obj_log.specs.Changes.{expected_of_volume}
 use Rattle.plain_disk.specs.Cache.{PlainCache}
 use Rattle.refine_log.specs.Pending.{ShowsPending}
 use Rattle.vol_core.specs.Volume.{VolumeState}
+use Rattle.vol_core.specs.Shows.{pins_on}
 
 -- ---- its sizes, its uuid and its device
 
@@ -59,6 +60,13 @@ objects_on_way volume = volume.objects.uploads.window.objects
 abbrev pub volume_uploads : VolumeState → UploadsState
 volume_uploads volume = volume.objects.uploads
 
+-- the numbers of its last object, and of its newest acknowledged checkpoint
+abbrev pub last_object : VolumeState → ℕ
+last_object volume = volume.objects.uploads.window.last
+
+abbrev pub acknowledged_checkpoint : VolumeState → ℕ
+acknowledged_checkpoint volume = volume.objects.uploads.queue.maps.objects.checkpoint
+
 -- the name of its object of a number
 abbrev pub object_name_in : VolumeState → (number : ℕ) → ObjName
 object_name_in volume number = object_name (expected_of_volume volume.objects) number
@@ -67,6 +75,10 @@ object_name_in volume number = object_name (expected_of_volume volume.objects) n
 abbrev pub IsPutOutIn : VolumeState → (number : ℕ) → (bytes : List ℕ) → Type 0
 IsPutOutIn volume number bytes = IsOut volume.objects.uploads number bytes
 
--- the objects that plans of reads have pinned, each as often as it is
-abbrev pub pinned_objects : VolumeState → List ℕ
-pinned_objects volume = volume.pins
+-- no plan of a read has pinned an object
+abbrev pub HasNoPins : VolumeState → Type 0
+HasNoPins volume = (number : ℕ) → pins_on volume number ≡ 0
+
+-- the object whose removal is out
+abbrev pub removal_out : VolumeState → Option ℕ
+removal_out volume = volume.objects.uploads.queue.removal

@@ -1,21 +1,18 @@
 -- Contract: what is seen of a volume.
-use Rattle.std.specs.Prelude.{ℕ, List}
+use Rattle.std.specs.Prelude.{ℕ}
 use Rattle.lsvd_device.specs.Device.{DiskState}
 use Rattle.commit_slot.specs.Commits.{with_budget}
 use Rattle.cache_log.specs.Log.{LogState}
 use Rattle.obj_log.specs.State.{ObjLogState}
 
--- A volume: its entries and objects, the log on its cache, the objects that plans of reads have pinned, each as often as it is
--- pinned, and the number of the newest checkpoint.
+-- A volume: its entries and objects, and the log on its cache.
 pub record VolumeState : Type 0 where
   pub objects : ObjLogState
   pub log : LogState
-  pub pins : List ℕ
-  pub checkpoint : ℕ
 
 -- a volume of these parts
-abbrev pub volume_of : ObjLogState → LogState → (pins : List ℕ) → (checkpoint : ℕ) → VolumeState
-volume_of objects log pins checkpoint = record { objects = objects; log = log; pins = pins; checkpoint = checkpoint }
+abbrev pub volume_of : ObjLogState → LogState → VolumeState
+volume_of objects log = record { objects = objects; log = log }
 
 -- the same volume on a device that passes what another one does
 abbrev pub with_budget_of : DiskState → VolumeState → VolumeState

@@ -25,6 +25,14 @@ pub enum Event<R: Receipt> {
     JobDone { job: Job, receipt: R },
     /// The put of a job failed.
     JobFailed(Job),
+    /// Seals a checkpoint.
+    SealCheckpoint,
+    /// Begins the removal of the lowest object that may be removed.
+    TakeRemove,
+    /// The removal of the object of this number is done: the store has it no more.
+    RemoveDone { number: u64 },
+    /// The removal of the object that the receipt names failed. The receipt serves a later removal of it.
+    RemoveFailed(R),
     /// Asks for the counts.
     Status,
 }

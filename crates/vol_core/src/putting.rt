@@ -1,11 +1,12 @@
 ghost use Rattle.std.specs.Prelude.{◌≡◌, ◌+◌, ◌-◌, ◌^◌, ◌<◌};
-ghost use Rattle.vol_core.specs.Calls.{Seals, TakesLowestReady, Finishes, Returns};
+ghost use Rattle.object_uploads.specs.Order.{IsUploads};
+ghost use Rattle.vol_core.specs.Calls.{Seals, SealsCheckpoint, TakesLowestReady, Finishes, Returns};
 
 use crate::reply::Reply;
 use lsvd_objstore::Receipt;
 use obj_log::{ObjLog, SealError};
 use object_uploads::Job;
-use std::alloc::Global;
+use std::alloc::{AllocError, Global};
 
 /// Seals the next data object. The objects are of a volume as large as the batch's, and the numbers go on
 /// below 2^64 - 1 (conditions).
@@ -22,6 +23,20 @@ pub(crate) fn seal<R: Receipt>(alloc: Global, objects: &mut ObjLog<R>) -> Reply<
     }
 }
 
+/// Seals a checkpoint. The numbers go on below 2^64 - 1 (a condition).
+pub(crate) fn seal_checkpoint<R: Receipt>(alloc: Global, objects: &mut ObjLog<R>) -> Reply<R>
+    requires { objects.old.uploads.window.last + 1 < 2 ^ 64 - 1 }
+    ensures { SealsCheckpoint result objects.old objects.new }
+{
+    if objects.uploads().window().is_full() {
+        return Reply::Busy;
+    }
+    match objects.uploads_mut().seal_checkpoint(alloc) {
+        Ok(number) => Reply::Sealed(number),
+        Err(AllocError) => Reply::OutOfMemory,
+    }
+}
+
 /// Begins the put of the lowest ready object.
 pub(crate) fn take_job<R: Receipt>(objects: &mut ObjLog<R>) -> Reply<R>
     ensures { TakesLowestReady result objects.old objects.new }
@@ -34,7 +49,8 @@ pub(crate) fn take_job<R: Receipt>(objects: &mut ObjLog<R>) -> Reply<R>
 
 /// A put is done.
 pub(crate) fn job_done<R: Receipt>(objects: &mut ObjLog<R>, job: Job, receipt: R) -> Reply<R>
-    ensures { Finishes R.state job receipt result objects.old objects.new }
+    ensures done { Finishes R.state job receipt result objects.old objects.new }
+    ensures order { IsUploads objects.new.uploads }
 {
     match objects.uploads_mut().job_done(&job, receipt) {
         Ok(frontier) => Reply::Done(frontier),

@@ -81,8 +81,16 @@ pub enum Reply<R: Receipt> {
     Returned,
     /// The put is not out.
     NotReturned(Job),
+    /// The removal of the object that this names is to be made.
+    Removing(R),
+    /// The object is removed.
+    Removed,
+    /// The object may be removed again.
+    GivenBack,
+    /// The removal of the object that this names is not out.
+    NotGivenBack(R),
     /// How many entries the history has, and the numbers of the last object that was sealed, of the frontier,
-    /// and of the newest checkpoint.
+    /// and of the newest checkpoint that was sealed.
     Told {
         writes: u64,
         sealed: u64,
@@ -91,7 +99,7 @@ pub enum Reply<R: Receipt> {
     },
     /// The volume does not take a read of these sectors.
     Range,
-    /// There is nothing to seal or to put.
+    /// There is nothing to seal, to put or to remove, or the removal is not out.
     Nothing,
     /// 16 objects are on their way to the store.
     Busy,

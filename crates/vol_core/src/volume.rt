@@ -1,4 +1,4 @@
-ghost use Rattle.std.specs.Prelude.{◌≡◌, ℕ, ◌+◌, ◌<◌, [], false, IsTrue};
+ghost use Rattle.std.specs.Prelude.{◌≡◌, ℕ, ◌+◌, ◌<◌, false, IsTrue};
 ghost use Rattle.std.specs.Fn.{FnOnceReturnsAtMut};
 ghost use Rattle.lsvd_base.specs.Limits.{is_within_limits};
 ghost use Rattle.lsvd_device.specs.Device.{IsDisk};
@@ -17,7 +17,8 @@ ghost use Rattle.vol_core.specs.Calls.{IsReadyForStep, event_of};
 use crate::committing::commit;
 use crate::entering::enter;
 use crate::event::Event;
-use crate::putting::{job_done, job_failed, seal, take_job};
+use crate::putting::{job_done, job_failed, seal, seal_checkpoint, take_job};
+use crate::removing::{remove_done, remove_failed, take_remove};
 use crate::reply::Reply;
 use cache_log::CacheLog;
 use lsvd_base::{Entry, Geometry};
@@ -26,7 +27,7 @@ use lsvd_fault::Failed;
 use lsvd_objstore::Receipt;
 use obj_log::ObjLog;
 use object_uploads::Job;
-use read_plan::{LookError, Pins, Plan, look};
+use read_plan::{LookError, Plan, look, release};
 use std::alloc::Global;
 use std::marker::Model;
 use uuid::Uuid;
@@ -38,9 +39,6 @@ pub struct Volume<D: Disk, R: Receipt> {
     alloc: Global,
     objects: ObjLog<R>,
     log: CacheLog<D>,
-    pins: Pins,
-    // The number of the newest checkpoint.
-    checkpoint: u64,
     steps: u64,
 }
 
@@ -50,29 +48,23 @@ impl<D: Disk, R: Receipt> Model for Volume<D, R> {
 
     ghost Value = { SteppedVolume };
 
-    ghost view = { λ v. record { volume = volume_of v.objects v.log v.pins v.checkpoint; steps = v.steps } };
+    ghost view = { λ v. record { volume = volume_of v.objects v.log; steps = v.steps } };
 
-    ghost invariant = { λ v. IsVolume (record {
-      volume = volume_of v.objects v.log v.pins v.checkpoint;
-      steps = v.steps;
-    }) };
+    ghost invariant = { λ v. IsVolume (record { volume = volume_of v.objects v.log; steps = v.steps }) };
 }
 
 impl<D: Disk, R: Receipt> Volume<D, R> {
     /// The volume of these entries and objects and this log, which together show a plain volume, and whose
-    /// numbers are below 2^60 (conditions). Its newest checkpoint has this number. No plan of a read is out,
-    /// and it has made no step.
-    pub fn new(alloc: Global, objects: ObjLog<R>, log: CacheLog<D>, checkpoint: u64) -> Volume<D, R>
-        requires shows { (plain : PlainState) × Shows (volume_of objects log [] checkpoint) plain }
-        requires small { IsSmall (volume_of objects log [] checkpoint) 0 }
-        ensures { result ≡ record { volume = volume_of objects log [] checkpoint; steps = 0 } }
+    /// numbers are below 2^60, with no object pinned (conditions). It has made no step.
+    pub fn new(alloc: Global, objects: ObjLog<R>, log: CacheLog<D>) -> Volume<D, R>
+        requires shows { (plain : PlainState) × Shows (volume_of objects log) plain }
+        requires small { IsSmall (volume_of objects log) 0 }
+        ensures { result ≡ record { volume = volume_of objects log; steps = 0 } }
     {
         Volume {
             alloc,
             objects,
             log,
-            pins: Pins::new(alloc),
-            checkpoint,
             steps: 0,
         }
     }
@@ -87,8 +79,9 @@ impl<D: Disk, R: Receipt> Volume<D, R> {
     /// of sectors that a write past the frontier's end wrote last; `Fault` is told exactly where one of them
     /// failed, which the device counted once. Where the device has room for them, as many writes are pending
     /// on it after the step as on the plain volume's cache, if so many were before. A step adds an entry and
-    /// an object at most, and makes two commits at most. What is so of every volume is told of the one before
-    /// the step, with the order of its log and its uploads, and of the one after it.
+    /// an object at most, makes two commits at most, and pins each object once at most. What is so of every
+    /// volume is told of the one before the step, with the order of its log and its uploads, and of the one
+    /// after it.
     pub fn step(&mut self, event: Event<R>) -> Reply<R>
         requires steps { self.old.steps < max_number }
         requires receipt { HasItsReceipt R.state event }
@@ -147,14 +140,8 @@ impl<D: Disk, R: Receipt> Volume<D, R> {
         ensures on_disk { IsOnDisk self.volume.log }
         ensures stands { (owner : CacheOwner) → HasOwnCommits owner self.volume → KeepsNow owner self.volume }
     {
-        let Volume {
-            objects,
-            log,
-            pins,
-            ..
-        } = self;
+        let Volume { objects, log, .. } = self;
         drop(objects);
-        drop(pins);
         log.into_disk()
     }
 
@@ -208,6 +195,10 @@ impl<D: Disk, R: Receipt> Volume<D, R> {
             Event::TakeJob => self.take_job(),
             Event::JobDone { job, receipt } => self.job_done(job, receipt),
             Event::JobFailed(job) => self.job_failed(job),
+            Event::SealCheckpoint => self.seal_checkpoint(),
+            Event::TakeRemove => self.take_remove(),
+            Event::RemoveDone { number } => self.remove_done(number),
+            Event::RemoveFailed(receipt) => self.remove_failed(receipt),
             Event::Status => self.status(),
         }
     }
@@ -245,8 +236,7 @@ impl<D: Disk, R: Receipt> Volume<D, R> {
         if !self.geometry().may_transfer(lba, sectors) {
             return Reply::Range;
         }
-        let (objects, log, pins) = (&self.objects, &mut self.log, &mut self.pins);
-        match look(alloc, objects, log, pins, lba, sectors) {
+        match look(alloc, &mut self.objects, &mut self.log, lba, sectors) {
             Ok(plan) => Reply::Planned(plan),
             Err(LookError::Fault) => Reply::Fault,
             Err(LookError::OutOfMemory) => Reply::OutOfMemory,
@@ -259,11 +249,10 @@ impl<D: Disk, R: Receipt> Volume<D, R> {
         ensures step { StepOf R.state (events.Release plan) result self.old.volume self.new.volume }
         ensures steps { self.new.steps ≡ self.old.steps }
     {
-        if !self.pins.has_all(plan.objects()) {
-            return Reply::NotReleased(plan);
+        match release(&mut self.objects, plan) {
+            Ok(()) => Reply::Released,
+            Err(plan) => Reply::NotReleased(plan),
         }
-        self.pins.unpin(plan.objects());
-        Reply::Released
     }
 
     // Seals the next data object.
@@ -303,6 +292,42 @@ impl<D: Disk, R: Receipt> Volume<D, R> {
         job_failed(&mut self.objects, job)
     }
 
+    // Seals a checkpoint.
+    fn seal_checkpoint(&mut self) -> Reply<R>
+        requires { IsReadyForStep self.old }
+        ensures step { StepOf R.state events.SealCheckpoint result self.old.volume self.new.volume }
+        ensures steps { self.new.steps ≡ self.old.steps }
+    {
+        seal_checkpoint(self.alloc, &mut self.objects)
+    }
+
+    // Begins the removal of the lowest object that may be removed.
+    fn take_remove(&mut self) -> Reply<R>
+        requires { IsReadyForStep self.old }
+        ensures step { StepOf R.state events.TakeRemove result self.old.volume self.new.volume }
+        ensures steps { self.new.steps ≡ self.old.steps }
+    {
+        take_remove(&mut self.objects)
+    }
+
+    // Counts an object as removed.
+    fn remove_done(&mut self, number: u64) -> Reply<R>
+        requires { IsReadyForStep self.old }
+        ensures step { StepOf R.state (events.RemoveDone number) result self.old.volume self.new.volume }
+        ensures steps { self.new.steps ≡ self.old.steps }
+    {
+        remove_done(&mut self.objects, number)
+    }
+
+    // Takes an object back whose removal failed.
+    fn remove_failed(&mut self, receipt: R) -> Reply<R>
+        requires { IsReadyForStep self.old }
+        ensures step { StepOf R.state (events.RemoveFailed receipt) result self.old.volume self.new.volume }
+        ensures steps { self.new.steps ≡ self.old.steps }
+    {
+        remove_failed(&mut self.objects, receipt)
+    }
+
     // Tells the counts.
     fn status(&self) -> Reply<R>
         ensures { StepOf R.state events.Status result self.now.volume self.now.volume }
@@ -312,7 +337,7 @@ impl<D: Disk, R: Receipt> Volume<D, R> {
             writes: self.objects.batch().next_seq(),
             sealed: uploads.last(),
             frontier: uploads.frontier(),
-            checkpoint: self.checkpoint,
+            checkpoint: uploads.newest_checkpoint(),
         }
     }
 }

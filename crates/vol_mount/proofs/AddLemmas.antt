@@ -13,12 +13,18 @@ use Rattle.lsvd_base.specs.Laws.{sector_count}
 use Rattle.lsvd_base.specs.Limits.{is_within_limits}
 use Rattle.lsvd_base.specs.Range.{is_in_range}
 use Rattle.batcher.specs.Batch.{data_sectors}
+use Rattle.extent_map.specs.State.{MapState}
 use Rattle.log_room.specs.Room.{max_log}
 use Rattle.cache_log.specs.declared.row.Row.{Row}
 use Rattle.cache_log.specs.declared.row.Row.TheVariants as row_kinds
 use Rattle.cache_log.specs.Rows.{seq_of, position_of, record_size, sectors_taken, next, Follow}
 use Rattle.cache_log.specs.Log.{LogState, row_of, AreRowsOf}
 use Rattle.cache_log.specs.Opening.{is_row_in_range, AreRowsInRange}
+use Rattle.object_table.specs.Table.{TableState}
+use Rattle.volume_maps.specs.declared.place.ObjectPlace.{ObjectPlace}
+use Rattle.object_uploads.specs.State.{QueueState, UploadsState}
+use Rattle.object_uploads.specs.Queue.{IsEntered}
+use Rattle.object_uploads.specs.Changes.{IsNotSealed}
 use Rattle.object_uploads.specs.Order.{IsUploads}
 use Rattle.obj_log.specs.State.{ObjLogState}
 use Rattle.obj_log.specs.Changes.{IsSame, IsAdded}
@@ -81,6 +87,14 @@ adds_one_more data_at [] entry old middle ready new adds same uploads added =
 adds_one_more data_at (first ∷ more) entry old middle ready new adds same uploads added =
     (adds.0, adds.1, adds.2, adds.3, adds.4, adds_one_more data_at more entry adds.1 middle ready new adds.5 same uploads added)
 
+-- no object was changed: the frontier, the objects' map and their table are as before
+pub record HasSameObjects (old new : QueueState) : Type 0 where
+  pub frontier : new.frontier ≡ old.frontier
+  pub placed : new.maps.settled.rows ≡ old.maps.settled.rows
+  pub rows : new.maps.objects.rows ≡ old.maps.objects.rows
+  pub sealed : new.sealed ≡ old.sealed
+  pub removal : new.removal ≡ old.removal
+
 -- what the list is then
 pub record HasAdded (entries : List Entry) (old new : ObjLogState) : Type 0 where
   pub geometry : new.batch.geometry ≡ old.batch.geometry
@@ -88,6 +102,35 @@ pub record HasAdded (entries : List Entry) (old new : ObjLogState) : Type 0 wher
   pub entries_are : new.batch.entries ≡ old.batch.entries ++ entries
   pub window : new.uploads.window ≡ old.uploads.window
   pub uuid : new.uploads.uuid ≡ old.uploads.uuid
+  pub objects : HasSameObjects old.uploads.queue new.uploads.queue
+
+same_objects : (old new : UploadsState) → IsNotSealed old new → HasSameObjects old.queue new.queue
+same_objects old new same = record {
+  frontier = same.settled.frontier;
+  placed = same.settled.places.settled;
+  rows = same.settled.places.objects;
+  sealed = same.sealed;
+  removal = same.settled.removal;
+}
+
+entered_objects : {entry : Entry} {seq data_at : ℕ} {old new : QueueState} → IsEntered entry seq data_at old new
+    → HasSameObjects old new
+entered_objects entered = record {
+  frontier = entered.frontier;
+  placed = ap (λ (settled : MapState ObjectPlace). settled.rows) entered.settled;
+  rows = ap (λ (table : TableState). table.rows) entered.objects;
+  sealed = entered.sealed;
+  removal = entered.removal;
+}
+
+objects_then : (old middle new : QueueState) → HasSameObjects old middle → HasSameObjects middle new → HasSameObjects old new
+objects_then old middle new first second = record {
+  frontier = second.frontier ∙ first.frontier;
+  placed = second.placed ∙ first.placed;
+  rows = second.rows ∙ first.rows;
+  sealed = second.sealed ∙ first.sealed;
+  removal = second.removal ∙ first.removal;
+}
 
 pub has_added : (data_at : ℕ → ℕ) (entries : List Entry) (old new : ObjLogState) → AddsEntries data_at entries old new
     → HasAdded entries old new
@@ -97,6 +140,7 @@ has_added data_at [] old new same = record {
   entries_are = same.entries ∙ sym (append-nil old.batch.entries);
   window = same.uploads.window;
   uuid = same.uploads.uuid;
+  objects = same_objects old.uploads new.uploads same.uploads;
 }
 has_added data_at (entry ∷ entries) old new adds =
     let same = adds.2 in
@@ -110,6 +154,10 @@ has_added data_at (entry ∷ entries) old new adds =
           ∙ append_assoc old.batch.entries (entry ∷ []) entries;
       window = rest.window ∙ (added.window ∙ same.uploads.window);
       uuid = rest.uuid ∙ (added.uuid ∙ same.uploads.uuid);
+      objects =
+          objects_then old.uploads.queue adds.0.uploads.queue new.uploads.queue (same_objects old.uploads adds.0.uploads
+          same.uploads)
+          (objects_then adds.0.uploads.queue adds.1.uploads.queue new.uploads.queue (entered_objects added.entered) rest.objects);
     }
 
 -- ---- the sectors of records

@@ -27,11 +27,12 @@ use Rattle.plain_disk.specs.declared.log.PlainCommit.{PlainCommit}
 use Rattle.plain_disk.specs.Log.{PlainLog}
 use Rattle.plain_disk.specs.State.{PlainState, history_length}
 use Rattle.plain_disk.specs.Valid.{IsPlainVolume}
-use Rattle.plain_disk.proofs.FirstLemmas.{first_with}
+use Rattle.object_recovery.specs.Checkpoints.{expected_of}
 use Rattle.refine_log.specs.Shows.{ShowsLog}
 use Rattle.refine_log.specs.Fuses.{fuse_in}
 use Rattle.refine_log.specs.Logged.{HasLoggedEntries}
 use Rattle.refine_objects.specs.Shows.{ShowsObjects}
+use Rattle.refine_objects.specs.Table.{ShowsTable}
 use Rattle.refine_log.specs.Stops.{HasCommitted, entries_past}
 use Rattle.refine_log.proofs.CommittedLemmas.{trimmed_has_committed, commit_has_committed}
 use Rattle.refine_mount.specs.Mounted.{end_of_object, mounted_with, mounted_without, log_found, committed_at, going_on, data_in}
@@ -39,12 +40,13 @@ use Rattle.refine_mount.specs.Stops.{StopKeepsMount}
 use Rattle.refine_mount.specs.Rest.{IsAtRest}
 use Rattle.refine_mount.proofs.ListLemmas.{list_shows_some}
 use Rattle.refine_mount.proofs.EntryLemmas.{entries_go_on}
+use Rattle.refine_mount.proofs.TableLemmas.{entries_keep_table}
 use Rattle.refine_mount.proofs.ReopenedLemmas.{reopened_shows_log}
 use Rattle.refine_mount.proofs.OpenedLemmas.{opened_has_committed, added_are_logged}
 use Rattle.refine_mount.proofs.GoingLemmas.{mounted_is_plain_volume, mounted_is_going_on}
 use Rattle.refine_mount.proofs.StopLemmas.{committing_keeps_mount}
 use Rattle.vol_core.specs.Volume.{volume_of}
-use Rattle.vol_core.specs.Shows.{Shows, IsSmall, max_number}
+use Rattle.vol_core.specs.Shows.{Shows, IsSmall, max_number, pins_on}
 use Rattle.vol_core.specs.Step.{passing}
 use Rattle.vol_mount.specs.Costs.{again_cost, CostsMount}
 use Rattle.vol_mount.specs.Mounted.{IsOfVolume, NumbersNextCommit}
@@ -53,9 +55,10 @@ use Rattle.vol_mount.specs.Refusals.{HasExtent, IsOwnCommit}
 use Rattle.vol_mount.specs.Passing.{PassesLeft}
 use Rattle.vol_mount.specs.Steps.{IsRecovered, IsRecoveredFrom, IsOpenedOf, IsCompleted, LeavesFrom, mounted_of}
 use Rattle.vol_mount.proofs.Moments.{now_as, now_with}
-use Rattle.vol_mount.proofs.RecoveryLemmas.{IsListOf, list_of, good_up_to}
+use Rattle.vol_mount.proofs.RecoveryLemmas.{IsListOf, list_of, knows_stored, good_up_to}
 use Rattle.vol_mount.proofs.CostLemmas.{costs_again}
 use Rattle.vol_mount.proofs.ShownLemmas.{shown}
+use Rattle.vol_mount.proofs.TableLemmas.{none_more, no_pins_then, knows_added}
 use Rattle.vol_mount.proofs.AddLemmas.{HasAdded, has_added, entry_in_range, a_row}
 use Rattle.vol_mount.proofs.CompleteLemmas.{first_is, rows_in_range}
 use Rattle.vol_mount.proofs.FoundLemmas.{left_sizes, reads_one, newest, has_commit, long, load_keeps, body_is, after}
@@ -270,10 +273,9 @@ module _ (uuid : List ℕ) (geometry : Geometry) (epoch : ℕ) (list : ObjLogSta
 
   -- it shows each volume at rest that the list shows, with the entries
   kept_shows : (plain : PlainState) → IsAtRest geometry checkpoint end_is plain
-      → ((data_at : ℕ → ℕ) → ShowsObjects data_at list plain)
-      → Shows (volume_of objects new [] checkpoint)
-      (passing (fuse_in new.commits.disk.budget) (going_on done.entries found_log plain))
-  kept_shows plain rest shows =
+      → ((data_at : ℕ → ℕ) → ShowsObjects data_at list plain) → ShowsTable list.uploads.queue plain
+      → Shows (volume_of objects new) (passing (fuse_in new.commits.disk.budget) (going_on done.entries found_log plain))
+  kept_shows plain rest shows table =
       let now : PlainState = going_on done.entries found_log plain in
       let valid : IsPlainVolume now =
       mounted_is_plain_volume geometry checkpoint end_is plain opened.commits.body log.rows done.entries rest
@@ -282,6 +284,8 @@ module _ (uuid : List ℕ) (geometry : Geometry) (epoch : ℕ) (list : ObjLogSta
       let of_objects : ShowsObjects place_of objects now =
       entries_go_on place_of geometry checkpoint end_is plain done.entries found_log list objects rest (shows place_of)
       (done.added a_row) in
+      let of_table : ShowsTable objects.uploads.queue now =
+      entries_keep_table place_of plain done.entries found_log list objects table (done.added a_row) in
       let rows : AreRowsOf new.rows done.entries = subst (λ r. AreRowsOf r done.entries) (sym done.same.rows) done.rows in
       let told : IfSome new.entries (λ l. l ≡ done.entries) =
       subst (λ t. IfSome t (λ l. l ≡ done.entries)) (sym done.same.entries) done.told in
@@ -289,15 +293,16 @@ module _ (uuid : List ℕ) (geometry : Geometry) (epoch : ℕ) (list : ObjLogSta
       added_are_logged geometry checkpoint end_is plain done.entries found_log new a_row rest (done.same.first
       ∙ trimmed_first) rows told
       done.numbered in
-      shown place_of objects new checkpoint now valid of_objects shows_log
+      shown place_of objects new now valid of_objects of_table shows_log
       (subst (λ d. HasLoggedEntries d new now) data_same logged)
-      (first_with plain now.entries now.cache plain.pins rest.alone) (sym rest.checkpoint_is) rest.pins
 
-  pub kept_shows_some : (plain : PlainState) × Shows (volume_of objects new [] checkpoint) plain
+  pub kept_shows_some : (plain : PlainState) × Shows (volume_of objects new) plain
   kept_shows_some =
       let some = list_shows_some uuid geometry checkpoint list.uploads.window.last end_is list limits is.numbered is.from is.list
-      is.order is.places in
-      (passing (fuse_in new.commits.disk.budget) (going_on done.entries found_log some.0), kept_shows some.0 some.1 some.2)
+      is.order is.places is.table in (
+        passing (fuse_in new.commits.disk.budget) (going_on done.entries found_log some.0),
+        kept_shows some.0 some.1 some.2 some.3,
+      )
 
   pub last_is : objects.uploads.window.last ≡ list.uploads.window.last
   last_is = ap (λ (w : WindowState). w.last) added.window
@@ -316,7 +321,10 @@ module _ (uuid : List ℕ) (geometry : Geometry) (epoch : ℕ) (list : ObjLogSta
       let same = trimmed_number in
       omega (arith, made, none, same)
 
-  pub kept_is_small : list.uploads.window.last < max_number → IsSmall (volume_of objects new [] checkpoint) 0
+  unpinned : (n : ℕ) → pins_on (volume_of objects new) n ≡ 0
+  unpinned = no_pins_then list.uploads.queue objects.uploads.queue checkpoint is.table added.objects
+
+  pub kept_is_small : list.uploads.window.last < max_number → IsSmall (volume_of objects new) 0
   kept_is_small last =
       let first = done.same.first in
       let rows = ap length done.same.rows in
@@ -331,6 +339,7 @@ module _ (uuid : List ℕ) (geometry : Geometry) (epoch : ℕ) (list : ObjLogSta
         entries = omega (arith, first, rows, here, count, whole, low);
         objects = omega (arith, window, last);
         commits = omega (arith, number, young);
+        pins = λ n. none_more (unpinned n);
       }
 
   -- its history has the entries of the objects, or those up to the head of the commit, if that are more
@@ -341,7 +350,7 @@ module _ (uuid : List ℕ) (geometry : Geometry) (epoch : ℕ) (list : ObjLogSta
       let whole = count_is in
       omega (arith, first, entries, whole)
 
-  pub kept_of_volume : IsOfVolume (owner_with uuid epoch) geometry (mounted_of objects new checkpoint)
+  pub kept_of_volume : IsOfVolume (owner_with uuid epoch) geometry (mounted_of objects new)
   kept_of_volume =
       let first = opened_has_committed own_cache geometry opened.commits log opened.is_of opened.up_to.finished
       opened.up_to.opened in
@@ -356,10 +365,12 @@ module _ (uuid : List ℕ) (geometry : Geometry) (epoch : ℕ) (list : ObjLogSta
         own = subst (λ g. HasCommitted own_cache g new) (sym geometry_is) own;
         last = refl;
         acknowledged = ap (λ (w : WindowState). w.objects) added.window ∙ ap (λ (w : WindowState). w.objects) is.list.window;
-        plans = refl;
+        none_sealed = added.objects.sealed ∙ is.list.sealed;
+        plans = unpinned;
+        none_out = added.objects.removal ∙ is.table.removal;
       }
 
-  pub numbers_next : NumbersNextCommit geometry.log old (mounted_of objects new checkpoint)
+  pub numbers_next : NumbersNextCommit geometry.log old (mounted_of objects new)
   numbers_next =
       now_as (λ now. Reads geometry.log now.bytes opened.commits.body opened.commits.number)
       (λ now. (n : ℕ) (b : CommitBody) → Reads geometry.log now.bytes b n → new.commits.number ≡ n + 1) old.moments
@@ -372,7 +383,7 @@ module _ (uuid : List ℕ) (geometry : Geometry) (epoch : ℕ) (list : ObjLogSta
 
   module _ (told : Option Objects) (size : log_start ≤ old.size) (sectors : geometry.log ≡ log_of old.size) (is_disk : IsDisk old)
       (from : IfSome told (λ o. IsRecoveredFrom uuid geometry o list checkpoint)) where
-    pub mounts_left : MountsLeft (owner_with uuid epoch) geometry told old (mounted_of objects new checkpoint)
+    pub mounts_left : MountsLeft (owner_with uuid epoch) geometry told old (mounted_of objects new)
     mounts_left = λ plain found number left.
         let of = (list_of uuid geometry plain number told list checkpoint limits is from left.stored).1 in
         let rest : PlainState = mounted_without geometry.log number plain in
@@ -383,7 +394,7 @@ module _ (uuid : List ℕ) (geometry : Geometry) (epoch : ℕ) (list : ObjLogSta
         ap (λ l. going_on l found_log rest) same
         ∙ goes_on uuid geometry epoch list checkpoint told old log limits size sectors is_disk is opened from plain found
         number left in
-        let shows = kept_shows rest of.at_rest of.shows in
+        let shows = kept_shows rest of.at_rest of.shows of.table in
         let first = added.first ∙ is.list.first in
         let entries = added.entries_are ∙ ap (λ l. l ++ done.entries) is.list.entries in
         let count = ap length entries in
@@ -391,8 +402,11 @@ module _ (uuid : List ℕ) (geometry : Geometry) (epoch : ℕ) (list : ObjLogSta
         let longer = length-append rest.entries done.entries in
         let whole = ap history_length goes in
         record {
-          shows = subst (λ p. Shows (volume_of objects new [] checkpoint) (passing (fuse_in new.commits.disk.budget) p))
-              goes shows;
+          shows = subst (λ p. Shows (volume_of objects new) (passing (fuse_in new.commits.disk.budget) p)) goes shows;
           entries = omega (arith, first, count, history, longer, whole);
           number_is = last_is ∙ of.number_is;
+          knows =
+              knows_added (expected_of uuid geometry) told plain.checkpoint.number list.uploads.queue objects.uploads.queue
+              added.objects
+              (knows_stored uuid geometry plain number told list checkpoint limits from left.stored);
         }

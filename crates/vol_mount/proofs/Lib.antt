@@ -9,6 +9,7 @@ mod EpochLemmas
 mod CostLemmas
 mod ShownLemmas
 mod AddLemmas
+mod TableLemmas
 mod LostLemmas
 mod OpenLemmas
 mod CompleteLemmas

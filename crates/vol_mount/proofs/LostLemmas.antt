@@ -24,6 +24,7 @@ use Rattle.refine_log.specs.Fuses.{fuse_in}
 use Rattle.refine_log.specs.Logged.{HasLoggedEntries}
 use Rattle.refine_log.proofs.Shown.{formatted_shows_empty}
 use Rattle.refine_objects.specs.Shows.{ShowsObjects}
+use Rattle.refine_objects.specs.Table.{ShowsTable}
 use Rattle.refine_log.specs.Stops.{HasCommitted}
 use Rattle.refine_log.proofs.CommittedLemmas.{formatted_has_committed}
 use Rattle.refine_mount.specs.Mounted.{data_in, going_on, mounted_without}
@@ -37,8 +38,9 @@ use Rattle.vol_core.specs.Step.{passing}
 use Rattle.vol_mount.specs.Mounted.{IsOfVolume}
 use Rattle.vol_mount.specs.Mounting.{MountsStored}
 use Rattle.vol_mount.specs.Steps.{AreLow, IsRecovered, IsRecoveredFrom, mounted_of}
-use Rattle.vol_mount.proofs.RecoveryLemmas.{list_of}
+use Rattle.vol_mount.proofs.RecoveryLemmas.{list_of, knows_stored}
 use Rattle.vol_mount.proofs.ShownLemmas.{shown}
+use Rattle.vol_mount.proofs.TableLemmas.{no_pins, none_more}
 use Rattle.vol_mount.proofs.AddLemmas.{a_row}
 
 no_entries : (moments : List Medium) → IfSome (entries_in [] moments) (λ list. list ≡ [])
@@ -81,30 +83,34 @@ module _ (uuid : List ℕ) (geometry : Geometry) (epoch : ℕ) (list : ObjLogSta
       none numbered)
 
   lost_shows : (plain : PlainState) → IsAtRest geometry checkpoint end plain
-      → ((data_at : ℕ → ℕ) → ShowsObjects data_at list plain)
-      → Shows (volume_of list log [] checkpoint) (passing (fuse_in log.commits.disk.budget) plain)
-  lost_shows plain rest shows =
+      → ((data_at : ℕ → ℕ) → ShowsObjects data_at list plain) → ShowsTable list.uploads.queue plain
+      → Shows (volume_of list log) (passing (fuse_in log.commits.disk.budget) plain)
+  lost_shows plain rest shows table =
       let of_log : ShowsLog log plain.cache.log = subst (λ (cache : PlainCache). ShowsLog log cache.log) (sym rest.cache)
       shows_empty in
-      shown (data_in log a_row) list log checkpoint plain rest.valid (shows (data_in log a_row)) of_log (logs_none plain rest)
-      rest.alone (sym rest.checkpoint_is) rest.pins
+      shown (data_in log a_row) list log plain rest.valid (shows (data_in log a_row)) table of_log (logs_none plain rest)
 
-  pub lost_shows_some : (plain : PlainState) × Shows (volume_of list log [] checkpoint) plain
+  pub lost_shows_some : (plain : PlainState) × Shows (volume_of list log) plain
   lost_shows_some =
       let some = list_shows_some uuid geometry checkpoint list.uploads.window.last end list limits is.numbered is.from is.list
-      is.order is.places in
-      (passing (fuse_in log.commits.disk.budget) some.0, lost_shows some.0 some.1 some.2)
+      is.order is.places is.table in
+      (passing (fuse_in log.commits.disk.budget) some.0, lost_shows some.0 some.1 some.2 some.3)
 
-  pub lost_is_small : (before : ℕ) → AreLow before list → IsSmall (volume_of list log [] checkpoint) 0
+  pub lost_is_small : (before : ℕ) → AreLow before list → IsSmall (volume_of list log) 0
   lost_is_small before are =
       let first = formatted.first in
       let rows = ap length formatted.rows in
       let low = are.end in
       let last = are.last in
       let number = formatted.commits.same_number in
-      record { entries = omega (arith, first, rows, low); objects = omega (arith, last); commits = omega (arith, number) }
+      record {
+        entries = omega (arith, first, rows, low);
+        objects = omega (arith, last);
+        commits = omega (arith, number);
+        pins = λ number. none_more (no_pins list.uploads.queue checkpoint is.table number);
+      }
 
-  pub lost_of_volume : IsOfVolume (owner_with uuid epoch) geometry (mounted_of list log checkpoint)
+  pub lost_of_volume : IsOfVolume (owner_with uuid epoch) geometry (mounted_of list log)
   lost_of_volume =
       let own = formatted_has_committed (owner_with uuid epoch) end geometry old log formatted in
       record {
@@ -114,7 +120,9 @@ module _ (uuid : List ℕ) (geometry : Geometry) (epoch : ℕ) (list : ObjLogSta
         own = subst (λ g. HasCommitted (owner_with uuid epoch) g log) (sym is.list.geometry_is) own;
         last = refl;
         acknowledged = ap (λ (w : WindowState). w.objects) is.list.window;
-        plans = refl;
+        none_sealed = is.list.sealed;
+        plans = no_pins list.uploads.queue checkpoint is.table;
+        none_out = is.table.removal;
       }
 
   -- its history has the entries of the objects
@@ -122,13 +130,14 @@ module _ (uuid : List ℕ) (geometry : Geometry) (epoch : ℕ) (list : ObjLogSta
   history_is = (let first = is.list.first in let none = ap length is.list.entries in omega (arith, first, none))
 
   pub mounts_stored : (objects : Option Objects) → IfSome objects (λ o. IsRecoveredFrom uuid geometry o list checkpoint)
-      → MountsStored uuid geometry objects (mounted_of list log checkpoint)
+      → MountsStored uuid geometry objects (mounted_of list log)
   mounts_stored objects from = λ plain number stored.
       let of = (list_of uuid geometry plain number objects list checkpoint limits is from stored).1 in
       let whole = history_is in
       let history = of.at_rest.history in
       record {
-        shows = lost_shows (mounted_without geometry.log number plain) of.at_rest of.shows;
+        shows = lost_shows (mounted_without geometry.log number plain) of.at_rest of.shows of.table;
         entries = omega (arith, whole, history);
         number_is = of.number_is;
+        knows = knows_stored uuid geometry plain number objects list checkpoint limits from stored;
       }

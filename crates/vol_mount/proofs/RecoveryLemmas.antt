@@ -15,12 +15,15 @@ use Rattle.object_recovery.specs.Checkpoints.{expected_of, IsNewestWithEnd, IsNo
 use Rattle.object_recovery.specs.Recovery.{HasDataUpTo, IsListUpTo, HasRecovered, IsLastLanded}
 use Rattle.object_recovery.specs.Recovery.{IsRefusal, IsRecoveryRefused}
 use Rattle.object_recovery.specs.Recovering.{Recovers}
+use Rattle.object_recovery.specs.Table.{HasTableFrom, KnowsObjects}
 use Rattle.object_recovery.proofs.RecoverLemmas.{base_is}
 use Rattle.refine_mount.specs.Found.{HasObjects}
 use Rattle.refine_mount.specs.Mounted.{end_of_object, sizes_with, mounted_without}
 use Rattle.refine_mount.specs.Rest.{IsAtRest}
 use Rattle.refine_mount.proofs.RestLemmas.{mounted_is_at_rest, recovered_shows_objects}
+use Rattle.refine_mount.proofs.TableLemmas.{recovered_shows_table}
 use Rattle.refine_objects.specs.Shows.{ShowsObjects}
+use Rattle.refine_objects.specs.Table.{ShowsTable}
 use Rattle.vol_core.specs.Shows.{max_number}
 use Rattle.refusals.specs.declared.refusal.Refusal.TheVariants.{NoCheckpoint, Worn}
 use Rattle.vol_mount.specs.declared.error.MountError.{MountError}
@@ -157,6 +160,8 @@ recovered_from uuid geometry (Some objects) log checkpoint told = record {
   landed = told.landed;
   no_longer = told.no_longer;
   good = told.good;
+  named = told.named;
+  knows = told.knows;
   recovered = told.recovered;
 }
 
@@ -172,7 +177,7 @@ pub good_objects : (uuid : List ℕ) (geometry : Geometry) (objects : Option Obj
     → IsRecovered uuid geometry log checkpoint → IfSome objects (λ o. IsRecoveredFrom uuid geometry o log checkpoint)
     → HasGoodObjects uuid geometry objects
 good_objects uuid geometry None log checkpoint is from = tt
-good_objects uuid geometry (Some objects) log checkpoint is from = (checkpoint, is.numbered, from.good)
+good_objects uuid geometry (Some objects) log checkpoint is from = (checkpoint, is.numbered, from.good, from.named)
 
 pub good_up_to : (uuid : List ℕ) (geometry : Geometry) (objects : Option Objects) (log : ObjLogState) (checkpoint : ℕ)
     → log.uploads.window.last < max_number → IsRecovered uuid geometry log checkpoint
@@ -184,6 +189,7 @@ good_up_to uuid geometry (Some objects) log checkpoint low is from = record {
   numbered = is.numbered;
   from = is.from;
   good = from.good;
+  named = from.named;
   landed = from.landed;
   last = (from.recovered (omega (arith, low))).last;
 }
@@ -195,8 +201,30 @@ pub record IsListOf (uuid : List ℕ) (geometry : Geometry) (plain : PlainState)
   pub has : HasObjects uuid plain number objects
   pub at_rest : IsAtRest geometry checkpoint log.uploads.queue.end (mounted_without geometry.log number plain)
   pub shows : (data_at : ℕ → ℕ) → ShowsObjects data_at log (mounted_without geometry.log number plain)
+  pub table : ShowsTable log.uploads.queue (mounted_without geometry.log number plain)
   pub end_is : log.uploads.queue.end ≡ end_of_object number plain
   pub number_is : log.uploads.window.last ≡ number
+
+-- where the store has a plain volume, the list's table is known from that one's newest checkpoint on
+knows_plain : (uuid : List ℕ) (geometry : Geometry) (plain : PlainState) (number : ℕ) (objects : Objects) (log : ObjLogState)
+    (checkpoint : ℕ)
+    → IsTrue (is_within_limits geometry) → IsRecoveredFrom uuid geometry objects log checkpoint
+    → IsStored uuid geometry plain number (Some objects)
+    → KnowsObjects (expected_of uuid geometry) objects plain.checkpoint.number log.uploads.queue
+knows_plain uuid geometry plain number objects log checkpoint limits from stored =
+    let first =
+    checkpoint_is uuid geometry plain number objects checkpoint from.checkpoint_end limits from.newest stored.sizes
+    stored.objects_are in
+    subst (λ n. KnowsObjects (expected_of uuid geometry) objects n log.uploads.queue) (sym first) from.knows
+
+pub knows_stored : (uuid : List ℕ) (geometry : Geometry) (plain : PlainState) (number : ℕ) (objects : Option Objects)
+    (log : ObjLogState) (checkpoint : ℕ)
+    → IsTrue (is_within_limits geometry) → IfSome objects (λ o. IsRecoveredFrom uuid geometry o log checkpoint)
+    → IsStored uuid geometry plain number objects
+    → IfSome objects (λ o. KnowsObjects (expected_of uuid geometry) o plain.checkpoint.number log.uploads.queue)
+knows_stored uuid geometry plain number None log checkpoint limits from stored = tt
+knows_stored uuid geometry plain number (Some objects) log checkpoint limits from stored =
+    knows_plain uuid geometry plain number objects log checkpoint limits from stored
 
 list_of_told : (uuid : List ℕ) (geometry : Geometry) (plain : PlainState) (number : ℕ) (objects : Objects) (log : ObjLogState)
     (checkpoint : ℕ)
@@ -214,6 +242,9 @@ list_of_told uuid geometry plain number objects log checkpoint limits is from st
     let first = checkpoint_is uuid geometry plain number objects checkpoint from.checkpoint_end limits from.newest sizes has in
     let fits = subst (λ g. IsTrue (is_within_limits g)) sizes limits in
     let rest = mounted_is_at_rest uuid geometry.log plain number objects stored.valid has fits in
+    let up_to = subst (λ g. IsListUpTo uuid g log.uploads.window.last log.uploads.queue.end log) sizes is.list in
+    let knows =
+    knows_plain uuid geometry plain number objects log checkpoint limits from stored in
     let R : Geometry → ℕ → ℕ → Type 0 = λ g c e. IsAtRest g c e (mounted_without geometry.log number plain) in
     record {
       has = has;
@@ -222,8 +253,11 @@ list_of_told uuid geometry plain number objects log checkpoint limits is from st
           (subst (λ c. R geometry c (end_of_object number plain)) first
           (subst (λ g. R g plain.checkpoint.number (end_of_object number plain)) (sym sizes) rest));
       shows = λ data_at.
-          recovered_shows_objects uuid data_at geometry.log plain number objects log stored.valid has
-          (subst (λ g. IsListUpTo uuid g log.uploads.window.last log.uploads.queue.end log) sizes is.list) recovered;
+          recovered_shows_objects uuid data_at geometry.log plain number objects log stored.valid has up_to recovered;
+      table =
+          recovered_shows_table uuid geometry.log plain number objects log stored.valid has up_to recovered.number_is
+          (subst (λ n. HasTableFrom n log.uploads.queue) (sym first) is.table)
+          (subst (λ g. KnowsObjects (expected_of uuid g) objects plain.checkpoint.number log.uploads.queue) sizes knows);
       end_is = recovered.end_is;
       number_is = recovered.number_is;
     }

@@ -10,6 +10,7 @@ use Rattle.stopped_volume.specs.Device.{CacheOwner}
 use Rattle.plain_disk.specs.declared.log.PlainCommit.{PlainCommit}
 use Rattle.plain_disk.specs.State.{PlainState}
 use Rattle.plain_disk.specs.Valid.{IsPlainVolume}
+use Rattle.object_recovery.specs.Checkpoints.{expected_of}
 use Rattle.refine_log.specs.Stops.{HasCommit}
 use Rattle.refine_mount.specs.Found.{HasObjects}
 use Rattle.refine_mount.specs.Mounted.{end_of_object, mounted_with, sizes_with, mounted_without}
@@ -20,8 +21,9 @@ use Rattle.vol_mount.specs.Refusals.{refuses}
 
 -- ---- without the cache
 
--- A store has a plain volume, with its objects up to a number: that before the first missing one. It is below 2^63: a volume is
--- worn out long before. It has these sizes but for the log: that of the device may have any length that the limits allow.
+-- A store has a plain volume as a mount finds it, with its objects up to a number: that before the first missing one. It is
+-- below 2^63: a volume is worn out long before. It has these sizes but for the log: that of the device may have any length that
+-- the limits allow.
 pub record IsStored (uuid : List ℕ) (geometry : Geometry) (plain : PlainState) (number : ℕ) (objects : Option Objects) :
     Type 0 where
   pub valid : IsPlainVolume plain
@@ -34,7 +36,7 @@ pub record IsStored (uuid : List ℕ) (geometry : Geometry) (plain : PlainState)
 abbrev pub MountsStored : (uuid : List ℕ) → Geometry → Option Objects → MountedState → Type 0
 MountsStored uuid geometry objects mounted =
     (plain : PlainState) (number : ℕ) → IsStored uuid geometry plain number objects
-    → IsMountOf (mounted_without geometry.log number plain) number mounted
+    → IsMountOf (expected_of uuid geometry) objects (mounted_without geometry.log number plain) number mounted
 
 -- ---- with the cache
 
@@ -51,7 +53,7 @@ pub record IsLeft (owner : CacheOwner) (geometry : Geometry) (plain : PlainState
 abbrev pub MountsLeft : (owner : CacheOwner) → Geometry → Option Objects → DiskState → MountedState → Type 0
 MountsLeft owner geometry objects disk mounted =
     (plain : PlainState) (found : PlainCommit) (number : ℕ) → IsLeft owner geometry plain found number objects disk
-    → IsMountOf (mounted_with found number plain) number mounted
+    → IsMountOf (expected_of owner.uuid geometry) objects (mounted_with found number plain) number mounted
 
 -- ---- stops
 

@@ -9,17 +9,18 @@ use Rattle.object_recovery.specs.Checkpoints.{expected_of}
 use Rattle.object_recovery.specs.Judging.{HaveLanded}
 use Rattle.object_recovery.specs.Recovery.{IsLastLanded, AreAllGood}
 use Rattle.vol_core.specs.Shows.{max_number}
-use Rattle.vol_mount.specs.Refusals.{HasExtent, ReadsWhole, IsOwnCommit}
+use Rattle.vol_mount.specs.Refusals.{HasExtent, AreAllNamed, ReadsWhole, IsOwnCommit}
 
 -- ---- the store
 
--- The objects of a volume in a store are good from the newest checkpoint on, and the one of this number is that before the first
--- missing one.
+-- The objects of a volume in a store are good from the newest checkpoint on, those that it names are there, and the one of this
+-- number is that before the first missing one.
 pub record AreGoodUpTo (uuid : List ℕ) (geometry : Geometry) (number : ℕ) (objects : Objects) : Type 0 where
   pub base : ℕ
   pub numbered : 0 < base
   pub from : base ≤ number
   pub good : AreAllGood (expected_of uuid geometry) objects base
+  pub named : AreAllNamed (expected_of uuid geometry) objects base
   pub landed : HaveLanded objects (expected_of uuid geometry) base number
   pub last : IsLastLanded (expected_of uuid geometry) objects number
 

@@ -19,8 +19,10 @@ use Rattle.cache_log.specs.declared.error.OpenError.{OpenError}
 use Rattle.cache_log.specs.declared.error.OpenError.TheVariants as open_errors
 use Rattle.cache_log.specs.declared.error.LogReadError.{LogReadError}
 use Rattle.cache_log.specs.declared.error.LogReadError.TheVariants as read_errors
-use Rattle.object_stream.specs.Stream.{Stream, end_at}
+use Rattle.object_format.specs.declared.expected.Expected.{Expected}
+use Rattle.object_stream.specs.Stream.{Stream, Owners, end_at}
 use Rattle.stopped_volume.specs.Objects.{landed_in}
+use Rattle.stopped_volume.specs.Opening.{IsCheckpointOf}
 use Rattle.stopped_volume.specs.Device.{CacheOwner, owner_of}
 use Rattle.refusals.specs.declared.refusal.Refusal.TheVariants.{NoVolume, BadSuper, NoCheckpoint, BadObject, NotData}
 use Rattle.refusals.specs.declared.refusal.Refusal.TheVariants.{MissingObject, NoSlot, WrongVolume, StaleCache, BadRecord, Worn}
@@ -30,6 +32,7 @@ use Rattle.object_recovery.specs.declared.error.RecoverError.{RecoverError}
 use Rattle.object_recovery.specs.declared.error.RecoverError.TheVariants as recovery
 use Rattle.object_recovery.specs.Checkpoints.{expected_of, IsNoCheckpoint}
 use Rattle.object_recovery.specs.Recovery.{HasDataUpTo, IsPastOf, IsRecoveryRefused, AreAllGood}
+use Rattle.object_recovery.specs.Table.{AreNamedThere}
 use Rattle.vol_mount.specs.declared.error.MountError.{MountError}
 use Rattle.vol_mount.specs.declared.error.MountError.TheVariants.{Refused, StoreFault, DeviceFault, OutOfMemory}
 
@@ -64,11 +67,18 @@ of_super supers.OutOfMemory = OutOfMemory
 
 -- ---- the objects
 
--- The objects of a store are good: the store has a whole checkpoint of the volume, and each object past the newest one is of the
--- grammar and, up to the first missing number, goes on where the one before it ends.
+-- each object that the rows of the checkpoint with this number name is there, by its header, and its payload has their places
+abbrev pub AreAllNamed : (volume : Expected) → Objects → (base : ℕ) → Type 0
+AreAllNamed volume objects base =
+    (end : ℕ) (owned : Owners) → (checkpoint : IsCheckpointOf volume objects base end owned)
+    → AreNamedThere volume objects checkpoint.rows
+
+-- The objects of a store are good: the store has a whole checkpoint of the volume, and the objects that the newest one names;
+-- each object past that is of the grammar and, up to the first missing number, goes on where the one before it ends.
 abbrev pub HasGoodObjects : (uuid : List ℕ) → Geometry → Option Objects → Type 0
 HasGoodObjects uuid geometry objects =
-    IfSome objects (λ objects. (base : ℕ) × (0 < base) × AreAllGood (expected_of uuid geometry) objects base)
+    IfSome objects (λ objects. (base : ℕ) × (0 < base) × AreAllGood (expected_of uuid geometry) objects base
+    × AreAllNamed (expected_of uuid geometry) objects base)
 
 -- ---- the device
 

@@ -1,6 +1,6 @@
 -- For this crate's own clauses: the steps of a mount.
 use Rattle.std.specs.Prelude.{◌≡◌, ℕ, ◌+◌, ◌-◌, ◌^◌, ◌<◌, ◌≤◌, max, Option, None, Bool, true, false, not, IfSome, Result, Ok, Err}
-use Rattle.std.specs.Prelude.{List, [], length}
+use Rattle.std.specs.Prelude.{List, length}
 use Rattle.lsvd_base.specs.declared.entry.Entry.{Entry}
 use Rattle.lsvd_base.specs.declared.geometry.Geometry.{Geometry}
 use Rattle.lsvd_device.specs.Device.{DiskState, IsDisk, HoldsNow}
@@ -25,6 +25,7 @@ use Rattle.object_recovery.specs.Checkpoints.{expected_of, IsNewestWithEnd}
 use Rattle.object_recovery.specs.Places.{HasPlacesInside}
 use Rattle.object_recovery.specs.Judging.{HaveLanded}
 use Rattle.object_recovery.specs.Recovery.{IsListUpTo, IsNoLonger, IsRecoveredOf, AreAllGood}
+use Rattle.object_recovery.specs.Table.{HasTableFrom, KnowsObjects}
 use Rattle.refine_mount.specs.Mounted.{data_in, AddsEntries}
 use Rattle.refusals.specs.declared.refusal.Refusal.{Refusal}
 use Rattle.refusals.specs.declared.refusal.Refusal.TheVariants.{WrongVolume, StaleCache, BadRecord}
@@ -36,7 +37,7 @@ use Rattle.vol_mount.specs.Mounting.{RefusesNoneStored}
 use Rattle.vol_mount.specs.Passing.{PassesStored}
 use Rattle.vol_mount.specs.Leaving.{MayLeaveDevice}
 use Rattle.vol_mount.specs.Costs.{open_cost, CostsMount}
-use Rattle.vol_mount.specs.Refusals.{IsWhyLost, IsWhyNotOpened, IsFault, is_device_fault, is_store_fault_of}
+use Rattle.vol_mount.specs.Refusals.{AreAllNamed, IsWhyLost, IsWhyNotOpened, IsFault, is_device_fault, is_store_fault_of}
 
 -- ---- errors
 
@@ -52,13 +53,15 @@ passes_device (Err error) = not (is_device_fault error)
 
 -- ---- the list
 
--- the list of a volume was recovered, from a checkpoint with this number on; its objects are in order
+-- the list of a volume was recovered, from a checkpoint with this number on; its objects are in order, and its table is from
+-- there
 pub record IsRecovered (uuid : List ℕ) (geometry : Geometry) (log : ObjLogState) (checkpoint : ℕ) : Type 0 where
   pub list : IsListUpTo uuid geometry log.uploads.window.last log.uploads.queue.end log
   pub order : IsUploads log.uploads
   pub places : HasPlacesInside geometry.sectors log.uploads.queue
   pub numbered : 0 < checkpoint
   pub from : checkpoint ≤ log.uploads.window.last
+  pub table : HasTableFrom checkpoint log.uploads.queue
 
 -- its numbers and the epoch are below those of a volume that is worn out
 pub record AreLow (epoch : ℕ) (log : ObjLogState) : Type 0 where
@@ -75,11 +78,15 @@ pub record IsRecoveredFrom (uuid : List ℕ) (geometry : Geometry) (objects : Ob
   pub landed : HaveLanded objects (expected_of uuid geometry) checkpoint log.uploads.window.last
   pub no_longer : IsNoLonger (expected_of uuid geometry) objects log.uploads.window.last
   pub good : AreAllGood (expected_of uuid geometry) objects checkpoint
+  pub named : AreAllNamed (expected_of uuid geometry) objects checkpoint
+  pub knows : KnowsObjects (expected_of uuid geometry) objects checkpoint log.uploads.queue
   pub recovered : log.uploads.window.last + 1 < 2 ^ 64 - 1 → IsRecoveredOf (expected_of uuid geometry) objects log
 
--- The list for a mount without the cache was recovered; where bytes are told, the store passes the tests of that.
+-- The list for a mount without the cache was recovered, from a checkpoint on; where bytes are told, the store passes the tests of
+-- that.
 pub record RecoversAlone (Tells : Type 0) (uuid : List ℕ) (geometry : Geometry) (epoch : ℕ) (objects : Option Objects)
-    (log : ObjLogState) (checkpoint : ℕ) : Type 0 where
+    (log : ObjLogState) : Type 0 where
+  pub checkpoint : ℕ
   pub list : IsRecovered uuid geometry log checkpoint
   pub low : AreLow epoch log
   pub told : Tells → IfSome objects (λ objects. IsRecoveredFrom uuid geometry objects log checkpoint)
@@ -156,10 +163,10 @@ pub record IsCompleted (list : ObjLogState) (old new : LogState) (objects : ObjL
 
 -- ---- the volume
 
--- a volume of a list and a log that was just mounted, whose newest checkpoint has this number
-abbrev pub mounted_of : ObjLogState → LogState → (checkpoint : ℕ) → MountedState
-mounted_of objects log checkpoint = record {
-  volume = record { volume = volume_of objects log [] checkpoint; steps = 0 };
+-- a volume of a list and a log that was just mounted
+abbrev pub mounted_of : ObjLogState → LogState → MountedState
+mounted_of objects log = record {
+  volume = record { volume = volume_of objects log; steps = 0 };
   entries = objects.batch.first + length objects.batch.entries;
   number = objects.uploads.window.last;
 }

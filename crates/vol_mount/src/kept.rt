@@ -1,7 +1,8 @@
-ghost use Rattle.std.specs.Prelude.{◌≡◌, ◌≤◌, IsTrue, IfOk, IfErr, OnOk, length};
+ghost use Rattle.std.specs.Prelude.{◌≡◌, ◌≤◌, IsTrue, IfOk, IfErr, IfSome, OnOk, length};
 ghost use Rattle.lsvd_base.specs.Limits.{is_within_limits};
 ghost use Rattle.lsvd_fault.specs.Faults.{Counts};
 ghost use Rattle.lsvd_device.specs.Device.{IsDisk};
+ghost use Rattle.lsvd_objstore.specs.Objects.{AreNamesOf, Lists};
 ghost use Rattle.lsvd_objstore.specs.Store.{Becomes};
 ghost use Rattle.commit_slot.specs.Slots.{log_of};
 ghost use Rattle.commit_slot.specs.Commits.{CommitsState};
@@ -22,23 +23,22 @@ use crate::error::MountError;
 use crate::mounted::{Mounted, assemble};
 use crate::opening::{Known, open_log};
 use crate::recovery::recover_list;
+use crate::stored::StoredVolume;
 use cache_log::CacheLog;
-use lsvd_base::Geometry;
 use lsvd_device::Disk;
 use lsvd_objstore::Store;
 use obj_log::ObjLog;
 use object_recovery::Recovered;
 use std::alloc::Global;
-use uuid::Uuid;
 
 /// Mounts a volume with the cache that it had: recovers the list of its objects, opens the log up to the head
 /// of the commit that the device reads as, takes the entries past the objects' end from it, removes the
 /// objects past the first missing number, and makes one commit, whose tail is at that end.
 ///
-/// The store has the volume with these sizes, and this is its newest epoch. The geometry is within the
-/// limits, its log has just the sectors of the device past byte 4,096, and the device is a disk of at least
-/// 4,096 bytes (conditions). Objects and device are tested before anything is changed, but that loading mends
-/// the slots of the device.
+/// The store has the volume with these sizes, this is its newest epoch, and these are the names of all that
+/// it has of it. The geometry is within the limits, its log has just the sectors of the device past byte
+/// 4,096, and the device is a disk of at least 4,096 bytes (conditions). Objects and device are tested before
+/// anything is changed, but that loading mends the slots of the device.
 ///
 /// A volume is mounted only where device and store pass all tests. Of each plain volume that they have it
 /// makes what such a mount is to make. Where nothing was pending on the device, whatever a stop leaves of it
@@ -61,22 +61,27 @@ pub fn mount_with_cache<D: Disk, S: Store>(
     alloc: Global,
     disk: D,
     store: &mut S,
-    uuid: Uuid,
-    geometry: Geometry,
-    epoch: u64,
+    volume: StoredVolume,
 ) -> Result<Mounted<D, S::Receipt>, (D, MountError)>
-    requires limits { IsTrue (is_within_limits geometry) }
+    requires limits { IsTrue (is_within_limits volume.geometry) }
+    requires names { AreNamesOf volume.uuid volume.names }
+    requires listed { IfSome (S.state store.old).objects (λ objects. Lists volume.uuid objects volume.names) }
     requires is_disk { IsDisk (D.state disk) }
     requires size { 4096 ≤ (D.state disk).size }
-    requires log { geometry.log ≡ log_of (D.state disk).size }
-    ensures { MountsWithCache D.state (TellsBytes S.Receipt.state) (owner_with uuid epoch) geometry
-        (D.state disk) (S.state store.old) (S.state store.new) result }
+    requires log { volume.geometry.log ≡ log_of (D.state disk).size }
+    ensures { MountsWithCache D.state (TellsBytes S.Receipt.state) (owner_with volume.uuid volume.epoch)
+        volume.geometry (D.state disk) (S.state store.old) (S.state store.new) result }
 {
-    let recovered = match recover_list(alloc, store, uuid, geometry) {
+    let StoredVolume {
+        uuid,
+        geometry,
+        epoch,
+        names,
+    } = volume;
+    let recovered = match recover_list(alloc, store, uuid, geometry, names) {
         Ok(recovered) => recovered,
         Err(error) => return Err((disk, error)),
     };
-    let checkpoint = recovered.checkpoint();
     let known = Known {
         uuid,
         geometry,
@@ -92,7 +97,7 @@ pub fn mount_with_cache<D: Disk, S: Store>(
         }
     };
     match complete(alloc, store, recovered, &mut log) {
-        Ok(objects) => Ok(assemble(alloc, objects, log, checkpoint)),
+        Ok(objects) => Ok(assemble(alloc, objects, log)),
         Err(error) => Err((log.into_disk(), error)),
     }
 }

@@ -18,6 +18,7 @@ mod lost;
 mod mounted;
 mod opening;
 mod recovery;
+mod stored;
 mod worn;
 
 pub use error::MountError;
@@ -25,3 +26,4 @@ pub use fitting::refuse_log;
 pub use kept::mount_with_cache;
 pub use lost::mount_without_cache;
 pub use mounted::Mounted;
+pub use stored::StoredVolume;

@@ -1,4 +1,4 @@
-ghost use Rattle.std.specs.Prelude.{◌≡◌, []};
+ghost use Rattle.std.specs.Prelude.{◌≡◌};
 ghost use Rattle.plain_disk.specs.State.{PlainState};
 ghost use Rattle.vol_core.specs.Volume.{volume_of};
 ghost use Rattle.vol_core.specs.Shows.{Shows, IsSmall};
@@ -31,20 +31,18 @@ impl<D: Disk, R: Receipt> Model for Mounted<D, R> {
     ghost view = { λ m. record { volume = m.volume; entries = m.entries; number = m.number } };
 }
 
-/// The volume of a list and a log, whose newest checkpoint has this number. They show a plain volume, and
-/// their numbers are small (conditions).
+/// The volume of a list and a log. They show a plain volume, and their numbers are small (conditions).
 pub(crate) fn assemble<D: Disk, R: Receipt>(
     alloc: Global,
     objects: ObjLog<R>,
     log: CacheLog<D>,
-    checkpoint: u64,
 ) -> Mounted<D, R>
-    requires shows { (plain : PlainState) × Shows (volume_of objects log [] checkpoint) plain }
-    requires small { IsSmall (volume_of objects log [] checkpoint) 0 }
-    ensures { result ≡ mounted_of objects log checkpoint }
+    requires shows { (plain : PlainState) × Shows (volume_of objects log) plain }
+    requires small { IsSmall (volume_of objects log) 0 }
+    ensures { result ≡ mounted_of objects log }
 {
     let (entries, number) = (objects.batch().next_seq(), objects.uploads().last());
-    let volume = Volume::new(alloc, objects, log, checkpoint);
+    let volume = Volume::new(alloc, objects, log);
     Mounted {
         volume,
         entries,

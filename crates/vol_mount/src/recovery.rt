@@ -1,6 +1,7 @@
 ghost use Rattle.std.specs.Prelude.{IsTrue, IfOk, IfErr, IfSome, ◌≡◌, false};
 ghost use Rattle.lsvd_base.specs.Limits.{is_within_limits};
 ghost use Rattle.lsvd_fault.specs.Faults.{Counts};
+ghost use Rattle.lsvd_objstore.specs.Objects.{AreNamesOf, Lists};
 ghost use Rattle.lsvd_objstore.specs.Store.{OnlyCounts};
 ghost use Rattle.stopped_volume.specs.Store.{TellsBytes};
 ghost use Rattle.object_recovery.specs.State.{HasAllNames};
@@ -10,23 +11,27 @@ ghost use Rattle.vol_mount.specs.Steps.{IsRecovered, IsRecoveredFrom, ends_by_st
 
 use crate::error::MountError;
 use lsvd_base::Geometry;
-use lsvd_objstore::Store;
+use lsvd_objstore::{Names, Store};
 use object_recovery::{Recovered, recover};
 use refusals::Refusal;
 use std::alloc::Global;
 use uuid::Uuid;
 
-/// Recovers the list of a volume. The store is only read. An object of number 0 is none of a volume's, and so
-/// no checkpoint of it.
+/// Recovers the list of a volume, whose sizes are within the limits, by the names of all that the store has
+/// of it (conditions). The store is only read. An object of number 0 is none of a volume's, and so no
+/// checkpoint of it.
 pub(crate) fn recover_list<S: Store>(
     alloc: Global,
     store: &mut S,
     uuid: Uuid,
     geometry: Geometry,
+    names: Names,
 ) -> Result<Recovered<S::Receipt>, MountError>
-    requires { IsTrue (is_within_limits geometry) }
+    requires limits { IsTrue (is_within_limits geometry) }
+    requires names { AreNamesOf uuid names }
+    requires listed { IfSome (S.state store.old).objects (λ objects. Lists uuid objects names) }
     ensures list { IfOk result (λ recovered. IsRecovered uuid geometry recovered.log recovered.checkpoint) }
-    ensures names { IfOk result (HasAllNames (S.state store.old).objects) }
+    ensures has_names { IfOk result (HasAllNames (S.state store.old).objects) }
     ensures told { TellsBytes S.Receipt.state
         → IfOk result (λ recovered. IfSome (S.state store.old).objects (λ objects.
         IsRecoveredFrom uuid geometry objects recovered.log recovered.checkpoint)) }
@@ -38,7 +43,7 @@ pub(crate) fn recover_list<S: Store>(
     ensures unchanged { OnlyCounts (S.state store.old) (S.state store.new) }
     ensures faults { Counts (ends_by_store result) (S.state store.old).faults (S.state store.new).faults }
 {
-    let recovered = recover(alloc, store, uuid, geometry)?;
+    let recovered = recover(alloc, store, uuid, geometry, names)?;
     if recovered.checkpoint() == 0 {
         drop(recovered);
         return Err(MountError::Refused(Refusal::NoCheckpoint));

@@ -7,12 +7,15 @@ use Rattle.lsvd_device.specs.Device.{DiskState}
 use Rattle.lsvd_names.specs.Names.{super_name}
 use Rattle.lsvd_objstore.specs.Objects.{Objects, found}
 use Rattle.lsvd_objstore.specs.Store.{Becomes}
+use Rattle.batcher.specs.State.{BatchState}
+use Rattle.obj_log.specs.State.{ObjLogState}
 use Rattle.object_recovery.proofs.RemovalLemmas.{becomes_so, becomes_both}
 use Rattle.super_recovery.specs.declared.error.SuperError.{SuperError}
 use Rattle.super_recovery.specs.declared.error.SuperError.TheVariants as super_errors
 use Rattle.super_recovery.specs.Faults.{IsNoAnswer, is_store_fault}
 use Rattle.super_recovery.specs.Put.{PutsEpoch, MayBecome}
-use Rattle.vol_core.specs.Creating.{CostsFormat}
+use Rattle.vol_core.specs.Creating.{IsNewList, CostsFormat, CreatedOf}
+use Rattle.vol_core.specs.Volume.{SteppedVolume}
 use Rattle.vol_recover.specs.declared.creating.CreateError.{CreateError}
 use Rattle.vol_recover.specs.declared.creating.CreateError.TheVariants.{Exists, StoreFault, DeviceFault, OutOfMemory}
 use Rattle.vol_recover.specs.Creating.{PutsFirst, PutsEpochToo, PutsNoSuper, PutsSome, MayFormat, IsOfStore, of_super}
@@ -106,3 +109,31 @@ formatted_then uuid Exists disk left of_store calls = absurd of_store
 formatted_then uuid StoreFault disk left of_store calls = inr calls
 formatted_then uuid DeviceFault disk left of_store calls = absurd of_store
 formatted_then uuid OutOfMemory disk left of_store calls = inr calls
+
+-- ---- the list of a new volume
+
+-- its geometry, and that it is the list of the volume that it names
+pub list_geometry : (uuid : List ℕ) (geometry : Geometry) (list : ObjLogState) → IsNewList uuid geometry list
+    → list.batch.geometry ≡ geometry
+list_geometry uuid geometry list is = ap (λ (b : BatchState). b.geometry) is.batch
+
+pub list_is_new : (uuid : List ℕ) (geometry : Geometry) (list : ObjLogState) → IsNewList uuid geometry list
+    → IsNewList list.uploads.uuid list.batch.geometry list
+list_is_new uuid geometry list is =
+    subst (λ g. IsNewList list.uploads.uuid g list) (sym (list_geometry uuid geometry list is))
+    (subst (λ u. IsNewList u geometry list) (sym is.uuid_is) is)
+
+-- so a volume with that list is the one that was asked for
+pub created_of_list : (uuid : List ℕ) (geometry : Geometry) (list : ObjLogState) (disk : DiskState) (stepped : SteppedVolume)
+    → IsNewList uuid geometry list → CreatedOf list.uploads.uuid list.batch.geometry disk stepped
+    → CreatedOf uuid geometry disk stepped
+created_of_list uuid geometry list disk stepped is created =
+    subst (λ g. CreatedOf uuid g disk stepped) (list_geometry uuid geometry list is)
+    (subst (λ u. CreatedOf u list.batch.geometry disk stepped) is.uuid_is created)
+
+-- memory ran out for it, once all but the super object was put
+pub no_list : (uuid : List ℕ) (geometry : Geometry) (old new : Option Objects) → Becomes (PutsEpochToo uuid geometry) old new
+    → NotPreparedOf uuid geometry old new OutOfMemory
+no_list uuid geometry old new puts =
+    not_prepared uuid geometry old new OutOfMemory tt
+    (becomes_so (PutsEpochToo uuid geometry) (PutsNoSuper uuid geometry) old new (λ a b so. inr (inr so)) puts)

@@ -4,6 +4,8 @@ pub mod CreateLemmas
 pub mod CreationLemmas
 pub mod BlankLemmas
 pub mod NewLemmas
+pub mod MadeLemmas
 pub mod StandLemmas
 pub mod StopLemmas
+pub mod AgainLemmas
 pub mod AdmitLemmas

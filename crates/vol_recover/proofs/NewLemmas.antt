@@ -1,28 +1,35 @@
 -- A volume that was created stands in its store, with no entries.
-use Rattle.std.proofs.Common.{◌≡◌, ℕ, ◌<◌, List, refl, sym, ◌∙◌, ap, subst, inl, inr, arith}
+use Rattle.std.proofs.Common.{◌≡◌, ℕ, ◌<◌, ◌≤◌, true, false, ◌&&◌, is_some, List, refl, sym, ◌∙◌, ap, subst, inl, inr, arith}
 use Rattle.std.specs.Prelude.{◌≢◌, Option, Some, None, IfSome, IsTrue}
+use Rattle.std.proofs.lemmas.Bool.{cases_lt}
+use Rattle.std.proofs.lemmas.List.Elements.{All-nil}
 use Rattle.lsvd_base.specs.declared.geometry.Geometry.{Geometry}
 use Rattle.lsvd_base.specs.Limits.{is_within_limits}
 use Rattle.lsvd_names.specs.declared.name.ObjName.{ObjName}
 use Rattle.lsvd_names.specs.Names.{super_name, epoch_name, numbered_name}
 use Rattle.lsvd_objstore.specs.Objects.{Objects, found}
 use Rattle.lsvd_objstore.specs.Store.{Becomes}
+use Rattle.object_format.specs.declared.expected.Expected.{Expected}
+use Rattle.object_stream.specs.Landed.{Numbers}
+use Rattle.object_stream.specs.Replay.{object_name}
 use Rattle.object_uploads.specs.State.{UploadsState}
+use Rattle.stopped_volume.specs.Objects.{landed_in}
 use Rattle.stopped_volume.specs.Opening.{IsCheckpointOf}
-use Rattle.stopped_volume.specs.Store.{PutState, MayHoldPuts}
-use Rattle.stopped_volume.specs.Store.PutState.{Begun}
 use Rattle.stopped_volume.specs.Super.{HasVolume}
-use Rattle.plain_disk.specs.State.{created_volume, stream_in}
+use Rattle.plain_disk.specs.State.{PlainState, created_volume, stream_in}
+use Rattle.plain_disk.specs.Valid.{IsPlainVolume, MayLand}
 use Rattle.plain_disk.proofs.EventLemmas.{created_is}
-use Rattle.plain_disk.proofs.FirstLemmas.{created_has_first}
+use Rattle.plain_disk.proofs.OpeningLemmas.{created_opens}
+use Rattle.plain_disk.proofs.MarkedLemmas.{created_seals}
 use Rattle.object_recovery.specs.Checkpoints.{expected_of}
-use Rattle.refine_store.specs.Puts.{ArePuts, MayBeLeft}
-use Rattle.refine_store.specs.Stored.{StoreStands}
-use Rattle.refine_store.specs.Laws.{LeftHasObjects}
-use Rattle.refine_store.proofs.LowerLemmas.{lower_of_first}
+use Rattle.refine_mount.specs.Found.{HasObjects}
+use Rattle.refine_store.specs.Puts.{IsObjectOf}
+use Rattle.refine_store.specs.Stored.{StoreStands, HasVolumeUpTo}
+use Rattle.refine_store.proofs.StandLemmas.{mounted_stands}
+use Rattle.refine_store.proofs.VolumeLemmas.{volume_has_objects}
 use Rattle.super_recovery.specs.Found.{HasEpoch}
-use Rattle.super_recovery.specs.Laws.{VolumeIsCreated}
 use Rattle.super_recovery.specs.Put.{PutsSuper, PutsEpoch}
+use Rattle.super_recovery.proofs.LawLemmas.{volume_is_created}
 use Rattle.vol_recover.specs.Creating.{PutsFirst, PutsNoSuper, PutsSome, PutsVolume, IsNewTo, HasNewVolume, HasNoneOrNew}
 use Rattle.vol_recover.specs.Creating.{super_of}
 use Rattle.vol_recover.proofs.BlankLemmas.{uuid_alone, opens_blank}
@@ -69,13 +76,6 @@ lacks uuid objects name new of_uuid no_first no_epoch =
       | inr epoch ↦ no_epoch epoch
     ])
 
--- no object was sealed yet
-abbrev no_puts : ℕ → Option (PutState × List ℕ)
-no_puts number = None
-
-none_is_some : (put : PutState × List ℕ) → None ≡ Some put → ⊥
-none_is_some put same = cc
-
 -- ---- the puts
 
 module _ (uuid : List ℕ) (geometry : Geometry) (old : Objects) (new_to : IsNewTo uuid old) where
@@ -93,10 +93,18 @@ module _ (uuid : List ℕ) (geometry : Geometry) (old : Objects) (new_to : IsNew
 
   -- ---- the whole volume
 
-  module _ (limits : IsTrue (is_within_limits geometry)) (created : VolumeIsCreated) (left : LeftHasObjects)
-      (first epoch new : Objects)
+  module _ (limits : IsTrue (is_within_limits geometry)) (first epoch new : Objects)
       (puts_first : PutsFirst uuid geometry old first) (puts_epoch : PutsEpoch uuid 0 first epoch)
       (puts_super : PutsSuper (super_of uuid geometry) epoch new) where
+    abbrev volume : Expected
+    volume = expected_of uuid geometry
+
+    abbrev created : PlainState
+    created = created_volume geometry
+
+    abbrev landed : Numbers
+    landed = landed_in new (expected_of uuid geometry)
+
     same_as_first : (name : ObjName) → (name ≡ epoch_name uuid 0 → ⊥) → (name ≡ super_name uuid → ⊥)
         → found new name ≡ found first name
     same_as_first name no_epoch no_super = puts_super.others name no_super ∙ puts_epoch.others name no_epoch
@@ -117,7 +125,7 @@ module _ (uuid : List ℕ) (geometry : Geometry) (old : Objects) (new_to : IsNew
 
     has_volume : HasVolume uuid geometry 0 new
     has_volume =
-        created (super_of uuid geometry) geometry new refl refl puts_super.says has_epoch
+        volume_is_created (super_of uuid geometry) geometry new refl refl puts_super.says has_epoch
         (λ number past.
         still_lacks (epoch_name uuid number) refl (first_is_no_epoch uuid number) (other_epoch uuid number past)
         (super_is_no_epoch uuid number))
@@ -127,7 +135,25 @@ module _ (uuid : List ℕ) (geometry : Geometry) (old : Objects) (new_to : IsNew
         still_lacks (numbered_name uuid number) refl (other_object uuid number apart) (epoch_is_no_object uuid number 0)
         (super_is_no_object uuid number)
 
-    has_first : IsCheckpointOf (expected_of uuid geometry) new 1 0 (stream_in (created_volume geometry)).opening
+    lacks_later : (number : ℕ) → 1 < number → found new (numbered_name uuid number) ≡ None
+    lacks_later number past = lacks_object number (λ same. omega (arith, past, same))
+
+    -- no other object has landed
+    landed_is_first : (number : ℕ) → IsTrue (landed number) → number ≡ 1
+    landed_is_first number there = elim (cases_lt number 1) [
+      | inl low ↦
+          let none = ap is_some (lacks_object number (λ same. omega (arith, low, same))) in
+          absurd (let both : true ≡ false = sym there ∙ none in cc)
+      | inr from ↦ elim (cases_lt 1 number) [
+        | inl past ↦
+            let none = ap is_some (lacks_later number past) in absurd (let both : true ≡ false = sym there ∙ none in cc)
+        | inr to ↦ omega (arith, from, to)
+      ]
+    ]
+
+    -- ---- its first object
+
+    has_first : IsCheckpointOf volume new 1 0 (stream_in created).opening
     has_first =
         let is = puts_first.2 in
         record {
@@ -138,58 +164,110 @@ module _ (uuid : List ℕ) (geometry : Geometry) (old : Objects) (new_to : IsNew
           says = is.says;
         }
 
-    holds_no_puts : MayHoldPuts (expected_of uuid geometry) no_puts 1 new
-    holds_no_puts = record {
-      puts_are = λ number state bytes past some. absurd (none_is_some (state, bytes) some);
-      none_else = λ number past none. lacks_object number (λ same. omega arith);
+    is_first : IsObjectOf volume created 1 has_first.bytes
+    is_first = inl (record {
+      first = refl;
+      rows = has_first.rows;
+      is_checkpoint = has_first.is_checkpoint;
+      says = has_first.says;
+    })
+
+    there_is_first : (number : ℕ) → 0 < number → number ≤ 1
+        → (bytes : List ℕ) × (found new (object_name volume number) ≡ Some bytes) × IsObjectOf volume created number bytes
+    there_is_first number some most =
+        subst (λ n. (bytes : List ℕ) × (found new (object_name volume n) ≡ Some bytes) × IsObjectOf volume created n bytes)
+        (omega (arith, some, most)) (has_first.bytes, has_first.present, is_first)
+
+    first_landed : IsTrue (landed 1)
+    first_landed = ap is_some has_first.present
+
+    may_land : MayLand created landed
+    may_land = record {
+      surely = λ number some is given.
+          (let most = is.was_entered in
+          subst (λ n. IsTrue (landed n)) (omega (arith, some, most)) first_landed);
+      removed = λ number (is : false ≡ true). absurd (cc);
+      perhaps = λ number past there. (let same = landed_is_first number there in absurd (omega (arith, past, same)));
+      begun = All-nil (λ object. IsTrue (object.is_checkpoint && landed object.number) → IsTrue object.was_started);
     }
 
-    may_be_left : MayBeLeft uuid 0 (created_volume geometry) no_puts new
-    may_be_left = record {
+    -- ---- the whole
+
+    has_up_to : HasVolumeUpTo uuid 0 created landed new
+    has_up_to = record {
       described = has_volume;
-      opened = refl;
-      alone = created_has_first geometry;
-      uuid_at = uuid_alone uuid;
-      own = refl;
-      opens = opens_blank (expected_of uuid geometry) (uuid_alone uuid) new (stream_in (created_volume geometry)) geometry.sectors
-          has_first (λ k. refl);
-      lower = lower_of_first (expected_of uuid geometry) new (lacks_object 0 (λ same. omega arith));
-      held = holds_no_puts;
+      blank = created_opens geometry;
+      seals = created_seals geometry;
+      may = may_land;
+      there = λ number some most there. there_is_first number some most;
+      absent = λ number some most none.
+          (let same : 1 ≡ number = omega (arith, some, most) in
+          let there = subst (λ n. IsTrue (landed n)) same first_landed in
+          absurd (let both : true ≡ false = sym there ∙ none in cc));
+      none_first = lacks_object 0 (λ same. omega (arith, same));
+      missing = lacks_later 2 (omega arith);
+      past = λ number bytes past there.
+          absurd (let both : None ≡ Some bytes = sym (lacks_later number past) ∙ there in cc);
+      no_checkpoint = λ number end owned past is.
+          (let both : None ≡ Some is.bytes = sym (lacks_later number past) ∙ is.present in cc);
     }
 
-    are_puts : ArePuts (expected_of uuid geometry) (created_volume geometry) no_puts
-    are_puts = record { known = λ number past within. absurd (omega arith); none_else = λ number past. refl }
+    valid : IsPlainVolume created
+    valid = created_is geometry limits
 
-    stands : (uploads : UploadsState) → StoreStands uuid 0 (created_volume geometry) uploads new
-    stands uploads = record {
-      puts = no_puts;
-      are = are_puts;
-      left = may_be_left;
-      sealed = λ number bytes past some. absurd (none_is_some (Begun, bytes) some);
-    }
+    stands : (uploads : UploadsState) → StoreStands uuid 0 created uploads new
+    stands uploads =
+        (mounted_stands uuid 0 created landed created.cache.log.last geometry.log uploads new valid has_up_to
+        (λ number past. lacks_later number past)).1
+
+    -- a mount finds it as it is, but for how it opens
+    has_objects : HasObjects uuid created 1 new
+    has_objects =
+        let there = volume_has_objects uuid 0 created landed new valid has_up_to in
+        let data_of = there.stored in
+        let stream = data_of.stored in
+        record {
+          uuid_at = uuid_alone uuid;
+          opened = refl;
+          window = refl;
+          pins = refl;
+          none_out = refl;
+          gone = refl;
+          present = there.present;
+          stored = record {
+            own = refl;
+            valid = valid.stream;
+            sectors = valid.sectors;
+            stored = record {
+              checkpoint = stream.checkpoint;
+              checkpoints = stream.checkpoints;
+              missing = stream.missing;
+              base = stream.base;
+              opens = opens_blank volume (uuid_alone uuid) new (stream_in created) geometry.sectors has_first (λ k. refl);
+              last = omega arith;
+              stored = tt;
+              past = stream.past;
+            };
+            hold_data = data_of.hold_data;
+            inside = data_of.inside;
+          };
+        }
 
     has_new_volume : HasNewVolume uuid geometry new
-    has_new_volume = (
-      has_volume,
-      (left uuid 0 (created_volume geometry) no_puts new (created_is geometry limits) are_puts
-          may_be_left).0,
-      stands,
-    )
+    has_new_volume = (has_volume, has_objects, stands)
 
 -- ---- what a creation leaves
 
-new_stands : (uuid : List ℕ) (geometry : Geometry) (old new : Objects) → IsTrue (is_within_limits geometry) → VolumeIsCreated
-    → LeftHasObjects
+new_stands : (uuid : List ℕ) (geometry : Geometry) (old new : Objects) → IsTrue (is_within_limits geometry)
     → PutsVolume uuid geometry old new → IsNewTo uuid old → HasNewVolume uuid geometry new
-new_stands uuid geometry old new limits created left (middle, (first, puts_first, puts_epoch), puts_super) new_to =
-    has_new_volume uuid geometry old new_to limits created left first middle new puts_first puts_epoch puts_super
+new_stands uuid geometry old new limits (middle, (first, puts_first, puts_epoch), puts_super) new_to =
+    has_new_volume uuid geometry old new_to limits first middle new puts_first puts_epoch puts_super
 
-none_or_new : (uuid : List ℕ) (geometry : Geometry) (old new : Objects) → IsTrue (is_within_limits geometry) → VolumeIsCreated
-    → LeftHasObjects
+none_or_new : (uuid : List ℕ) (geometry : Geometry) (old new : Objects) → IsTrue (is_within_limits geometry)
     → PutsSome uuid geometry old new → IsNewTo uuid old → HasNoneOrNew uuid geometry new
-none_or_new uuid geometry old new limits created left (inl none) new_to = inl (no_super uuid geometry old new_to new none)
-none_or_new uuid geometry old new limits created left (inr volume) new_to =
-    inr (new_stands uuid geometry old new limits created left volume new_to)
+none_or_new uuid geometry old new limits (inl none) new_to = inl (no_super uuid geometry old new_to new none)
+none_or_new uuid geometry old new limits (inr volume) new_to =
+    inr (new_stands uuid geometry old new limits volume new_to)
 
 -- what a store becomes says so of it
 becomes_told : (C : Objects → Objects → Type 0) (P Q : Objects → Type 0) (old new : Option Objects)
@@ -200,17 +278,15 @@ becomes_told C P Q (Some a) new so becomes =
     λ before. subst (λ told. IfSome told Q) (sym becomes.1) (so a becomes.0 becomes.2 before)
 
 pub stands_new : (uuid : List ℕ) (geometry : Geometry) (old new : Option Objects) → IsTrue (is_within_limits geometry)
-    → VolumeIsCreated
-    → LeftHasObjects → Becomes (PutsVolume uuid geometry) old new
+    → Becomes (PutsVolume uuid geometry) old new
     → IfSome old (λ a. IsNewTo uuid a → IfSome new (HasNewVolume uuid geometry))
-stands_new uuid geometry old new limits created left puts =
+stands_new uuid geometry old new limits puts =
     becomes_told (PutsVolume uuid geometry) (IsNewTo uuid) (HasNewVolume uuid geometry) old new
-    (λ a b. new_stands uuid geometry a b limits created left) puts
+    (λ a b. new_stands uuid geometry a b limits) puts
 
 pub stands_none_or_new : (uuid : List ℕ) (geometry : Geometry) (old new : Option Objects) → IsTrue (is_within_limits geometry)
-    → VolumeIsCreated
-    → LeftHasObjects → Becomes (PutsSome uuid geometry) old new
+    → Becomes (PutsSome uuid geometry) old new
     → IfSome old (λ a. IsNewTo uuid a → IfSome new (HasNoneOrNew uuid geometry))
-stands_none_or_new uuid geometry old new limits created left puts =
+stands_none_or_new uuid geometry old new limits puts =
     becomes_told (PutsSome uuid geometry) (IsNewTo uuid) (HasNoneOrNew uuid geometry) old new
-    (λ a b. none_or_new uuid geometry a b limits created left) puts
+    (λ a b. none_or_new uuid geometry a b limits) puts

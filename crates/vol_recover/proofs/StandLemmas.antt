@@ -1,24 +1,30 @@
 -- A volume that was created or mounted stands with its store.
-use Rattle.std.proofs.Common.{◌≡◌, ℕ, ◌+◌, ◌^◌, ◌<◌, ◌≤◌, Option, Some, None, List, inl, inr, refl, sym, ◌∙◌, subst, arith}
+use Rattle.std.proofs.Common.{◌≡◌, ℕ, ◌+◌, ◌^◌, ◌<◌, ◌≤◌, ◌⊎◌, Option, Some, None, List, inl, inr, refl, sym, ◌∙◌}
+use Rattle.std.proofs.Common.{subst, arith}
 use Rattle.lsvd_base.specs.declared.geometry.Geometry.{Geometry}
 use Rattle.lsvd_names.specs.Spelling.{IsUuid}
 use Rattle.lsvd_objstore.specs.Objects.{Objects, found}
 use Rattle.lsvd_names.specs.Names.{super_name, epoch_name, numbered_name}
+use Rattle.object_format.specs.declared.expected.Expected.{Expected}
+use Rattle.object_stream.specs.Landed.{Numbers}
+use Rattle.object_stream.specs.Stream.{Owners}
 use Rattle.object_uploads.specs.State.{UploadsState}
+use Rattle.stopped_volume.specs.Expected.{expected_alone}
+use Rattle.stopped_volume.specs.Objects.{IsWhole}
+use Rattle.stopped_volume.specs.Opening.{IsCheckpointOf}
 use Rattle.stopped_volume.specs.Store.{PutState, MayHoldPut}
 use Rattle.stopped_volume.specs.Super.{HasVolume}
 use Rattle.super_recovery.specs.Put.{PutsEpoch}
 use Rattle.super_recovery.proofs.LawLemmas.{says_the_same, next_epoch_is_begun}
-use Rattle.plain_disk.specs.State.{PlainState, created_volume, stream_in}
+use Rattle.plain_disk.specs.State.{PlainState, created_volume}
+use Rattle.plain_disk.specs.Stops.{recovered_number, mounted_from, mounted_on}
+use Rattle.plain_disk.specs.Found.{found_in}
 use Rattle.object_recovery.specs.Checkpoints.{expected_of}
 use Rattle.object_recovery.specs.Removal.{Removes}
 use Rattle.object_recovery.specs.Recovery.{IsPastOf, RemovesAllPast}
-use Rattle.object_recovery.proofs.AgainLemmas.{removal_keeps_stream}
 use Rattle.refine_log.specs.Fuses.{fuse_in}
-use Rattle.refine_mount.specs.Mounted.{mounted_with, mounted_without}
 use Rattle.refine_store.specs.Puts.{MayBeLeft}
 use Rattle.refine_store.specs.Stored.{StoreStands, HasVolumeUpTo, HasNonePast}
-use Rattle.refine_store.proofs.LowerLemmas.{lower_stays, opening_stays}
 use Rattle.refine_store.proofs.StandLemmas.{mounted_stands, stands_with_any_cache}
 use Rattle.vol_core.specs.Shows.{Shows}
 use Rattle.vol_core.specs.Step.{passing}
@@ -26,13 +32,73 @@ use Rattle.vol_core.specs.Volume.{VolumeState}
 use Rattle.vol_mount.specs.Epochs.{BeginsEpoch}
 use Rattle.vol_recover.specs.Creating.{HasNewVolume}
 use Rattle.vol_recover.specs.Standing.{IsMadeWithStore, CreatedStands, MountedWithStands, MountedWithoutStands}
+use Rattle.vol_recover.proofs.MadeLemmas.{with_cache_shows, without_shows}
 use Rattle.vol_recover.proofs.NewLemmas.{epoch_is_no_object}
+
+-- ---- a store that keeps the objects up to a number
+
+-- a name that holds bytes still holds those that it held
+still_held : (old new : Option (List ℕ)) (bytes : List ℕ) → (new ≡ old) ⊎ (new ≡ None) → new ≡ Some bytes → old ≡ Some bytes
+still_held old new bytes (inl same) holds = sym same ∙ holds
+still_held old new bytes (inr gone) holds = (let none : None ≡ Some bytes = sym gone ∙ holds in absurd (cc))
+
+still_none : (old new : Option (List ℕ)) → (new ≡ old) ⊎ (new ≡ None) → old ≡ None → new ≡ None
+still_none old new (inl same) none = same ∙ none
+still_none old new (inr gone) none = gone
+
+-- the objects up to a number stay, and each past it stays or goes
+pub record KeepsUpTo (uuid : List ℕ) (number : ℕ) (old new : Objects) : Type 0 where
+  pub same : (other : ℕ) → other ≤ number → found new (numbered_name uuid other) ≡ found old (numbered_name uuid other)
+  pub later : (other : ℕ) → (found new (numbered_name uuid other) ≡ found old (numbered_name uuid other))
+      ⊎ (found new (numbered_name uuid other) ≡ None)
+
+module _ (uuid : List ℕ) (old new : Objects) (epoch next : ℕ) (plain : PlainState) (landed : Numbers)
+    (keeps : KeepsUpTo uuid (recovered_number landed plain) old new) (has : HasVolumeUpTo uuid epoch plain landed old)
+    (described : HasVolume uuid plain.geometry next new) where
+  abbrev volume : Expected
+  volume = expected_of uuid plain.geometry
+
+  held_before : (other : ℕ) (bytes : List ℕ) → found new (numbered_name uuid other) ≡ Some bytes
+      → found old (numbered_name uuid other) ≡ Some bytes
+  held_before other bytes holds =
+      still_held (found old (numbered_name uuid other)) (found new (numbered_name uuid other)) bytes (keeps.later other) holds
+
+  checkpoint_before : (number end : ℕ) (owned : Owners) → IsCheckpointOf volume new number end owned
+      → IsCheckpointOf volume old number end owned
+  checkpoint_before number end owned is = record {
+    bytes = is.bytes;
+    present = held_before number is.bytes is.present;
+    rows = is.rows;
+    is_checkpoint = is.is_checkpoint;
+    says = is.says;
+  }
+
+  pub keeps_up_to : HasVolumeUpTo uuid next plain landed new
+  keeps_up_to = record {
+    described = described;
+    blank = has.blank;
+    seals = has.seals;
+    may = has.may;
+    there = λ other some most landed_there.
+        (let there = has.there other some most landed_there in (there.0, keeps.same other most ∙ there.1, there.2));
+    absent = λ other some most not_landed. keeps.same other most ∙ has.absent other some most not_landed;
+    none_first = keeps.same 0 (omega arith) ∙ has.none_first;
+    missing =
+        (let other = recovered_number landed plain + 1 in
+        still_none (found old (numbered_name uuid other)) (found new (numbered_name uuid other)) (keeps.later other)
+        has.missing);
+    past = λ other bytes past holds. has.past other bytes past (held_before other bytes holds);
+    no_checkpoint = λ number end owned past is. has.no_checkpoint number end owned past (checkpoint_before number end owned is);
+  }
 
 -- ---- objects past a number are removed
 
 module _ (uuid : List ℕ) (number : ℕ) (old new : Objects) (removes : Removes (IsPastOf uuid number) old new) where
-  stays_none : (other : ℕ) → found old (numbered_name uuid other) ≡ None → found new (numbered_name uuid other) ≡ None
-  stays_none other none = elim (removes.removed (numbered_name uuid other)) [ inl same ↦ same ∙ none | inr gone ↦ gone ]
+  removal_keeps : KeepsUpTo uuid number old new
+  removal_keeps = record {
+    same = λ other low. removes.others (numbered_name uuid other) (λ past. absurd (omega (arith, past.1.1, low)));
+    later = λ other. removes.removed (numbered_name uuid other);
+  }
 
   pub removal_keeps_volume : (geometry : Geometry) (epoch : ℕ) → HasVolume uuid geometry epoch old
       → HasVolume uuid geometry epoch new
@@ -42,36 +108,28 @@ module _ (uuid : List ℕ) (number : ℕ) (old new : Objects) (removes : Removes
         of_epochs = λ n. removes.others (epoch_name uuid n) (λ past. (let e = past.1.0 in cc));
       })).has geometry epoch has
 
-  pub removal_keeps_up_to : (epoch : ℕ) (plain : PlainState) → HasVolumeUpTo uuid epoch plain number old
-      → HasVolumeUpTo uuid epoch plain number new
-  removal_keeps_up_to epoch plain has = record {
-    described = removal_keeps_volume plain.geometry epoch has.described;
-    objects_are = record {
-      uuid_at = has.objects_are.uuid_at;
-      opened = has.objects_are.opened;
-      alone = has.objects_are.alone;
-      stored =
-          removal_keeps_stream (expected_of uuid plain.geometry) has.objects_are.uuid_at old new (stream_in plain) plain.opening
-          number refl removes has.objects_are.stored;
-    };
-    lower =
-        let missing = has.objects_are.stored.stored.missing in
-        let base = has.objects_are.stored.stored.base in
-        let from : plain.number ≤ number = omega (arith, missing.above, base) in
-        lower_stays (expected_of uuid plain.geometry) plain.number old new
-        (λ other low. removes.others (numbered_name uuid other) (λ past. absurd (omega (arith, past.1.1, low, from)))) has.lower;
-  }
+pub removal_keeps_up_to : (uuid : List ℕ) (old new : Objects) (epoch : ℕ) (plain : PlainState) (landed : Numbers)
+    → Removes (IsPastOf uuid (recovered_number landed plain)) old new → HasVolumeUpTo uuid epoch plain landed old
+    → HasVolumeUpTo uuid epoch plain landed new
+removal_keeps_up_to uuid old new epoch plain landed removes has =
+    let number = recovered_number landed plain in
+    keeps_up_to uuid old new epoch epoch plain landed (removal_keeps uuid number old new removes) has
+    (removal_keeps_volume uuid number old new removes plain.geometry epoch has.described)
 
 -- where all are, none is left: each was whole, so that a name may have its number
-pub none_is_past : (uuid : List ℕ) (epoch : ℕ) (plain : PlainState) (number : ℕ) (old new : Objects) → IsUuid uuid
-    → HasVolumeUpTo uuid epoch plain number old
-    → RemovesAllPast uuid number old new → HasNonePast uuid number new
-none_is_past uuid epoch plain number old new is_uuid has removed other past = by_held (found old (numbered_name uuid other)) refl
+pub none_is_past : (uuid : List ℕ) (epoch : ℕ) (plain : PlainState) (landed : Numbers) (old new : Objects) → IsUuid uuid
+    → HasVolumeUpTo uuid epoch plain landed old
+    → RemovesAllPast uuid (recovered_number landed plain) old new → HasNonePast uuid (recovered_number landed plain) new
+none_is_past uuid epoch plain landed old new is_uuid has removed other past =
+    by_held (found old (numbered_name uuid other)) refl
   where
     by_held : (held : Option (List ℕ)) → found old (numbered_name uuid other) ≡ held → found new (numbered_name uuid other) ≡ None
-    by_held None was = stays_none uuid number old new removed.removes other was
+    by_held None was =
+        still_none (found old (numbered_name uuid other)) (found new (numbered_name uuid other))
+        (removed.removes.removed (numbered_name uuid other)) was
     by_held (Some bytes) was =
-        let head = (has.objects_are.stored.stored.past other bytes past was).2.head in
+        let whole : IsWhole (expected_alone (expected_of uuid plain.geometry) other) bytes = has.past other bytes past was in
+        let head = whole.2.head in
         let fits : other < 2 ^ 64 = subst (λ n. n < 2 ^ 64) head.number head.widths.number in
         removed.gone (numbered_name uuid other) (record { uuid = is_uuid; number = tt; fits = fits }) (refl, (refl, past))
 
@@ -81,22 +139,23 @@ module _ (uuid : List ℕ) (epoch : ℕ) (old new : Objects) (begun : PutsEpoch 
   same_object : (number : ℕ) → found new (numbered_name uuid number) ≡ found old (numbered_name uuid number)
   same_object number = begun.others (numbered_name uuid number) (epoch_is_no_object uuid number (epoch + 1))
 
-  pub next_is_left : (plain : PlainState) (puts : ℕ → Option (PutState × List ℕ)) → MayBeLeft uuid epoch plain puts old
+  pub next_is_up_to : (plain : PlainState) (landed : Numbers) → HasVolumeUpTo uuid epoch plain landed old
+      → HasVolumeUpTo uuid (epoch + 1) plain landed new
+  next_is_up_to plain landed has =
+      keeps_up_to uuid old new epoch (epoch + 1) plain landed
+      (record { same = λ other low. same_object other; later = λ other. inl (same_object other) }) has
+      (next_epoch_is_begun uuid plain.geometry epoch old new has.described begun)
+
+  next_is_left : (plain : PlainState) (puts : ℕ → Option (PutState × List ℕ)) → MayBeLeft uuid epoch plain puts old
       → MayBeLeft uuid (epoch + 1) plain puts new
   next_is_left plain puts left = record {
     described = next_epoch_is_begun uuid plain.geometry epoch old new left.described begun;
-    opened = left.opened;
-    alone = left.alone;
-    uuid_at = left.uuid_at;
-    own = left.own;
-    opens =
-        opening_stays (expected_of uuid plain.geometry) left.uuid_at old new plain.number refl left.own
-        (λ other low. same_object other) (stream_in plain) plain.opening refl left.opens;
-    lower = lower_stays (expected_of uuid plain.geometry) plain.number old new (λ other low. same_object other) left.lower;
+    blank = left.blank;
+    seals = left.seals;
     held = record {
-      puts_are = λ other state bytes past is.
-          subst (MayHoldPut state bytes) (sym (same_object other)) (left.held.puts_are other state bytes past is);
-      none_else = λ other past is. same_object other ∙ left.held.none_else other past is;
+      puts_are = λ other state bytes is.
+          subst (MayHoldPut state bytes) (sym (same_object other)) (left.held.puts_are other state bytes is);
+      none_else = λ other is. same_object other ∙ left.held.none_else other is;
     };
   }
 
@@ -107,6 +166,7 @@ module _ (uuid : List ℕ) (epoch : ℕ) (old new : Objects) (begun : PutsEpoch 
     are = stands.are;
     left = next_is_left plain stands.puts stands.left;
     sealed = stands.sealed;
+    out = stands.out;
   }
 
 -- ---- creations and mounts
@@ -130,27 +190,31 @@ created_stands uuid geometry disk old new stepped created new_to =
     (has.2 stepped.volume.objects.uploads)
 
 pub mounted_with_stands : MountedWithStands
-mounted_with_stands owner plain found number old new disk mounted is_uuid may mounts removed =
+mounted_with_stands owner plain found landed old new disk mounted is_uuid may mounts of_volume removed =
     let uuid : List ℕ = owner.uuid in
     let epoch : ℕ = owner.epoch in
-    let is = mounts plain found number may.left in
+    let number = recovered_number landed plain in
+    let is = mounts (found_in landed plain) found number may.left in
     let all : RemovesAllPast uuid number old new = subst (λ n. RemovesAllPast uuid n old new) is.number_is removed in
-    let has = removal_keeps_up_to uuid number old new all.removes epoch plain may.volume in
-    let none = none_is_past uuid epoch plain number old new is_uuid may.volume all in
-    made_with_store uuid epoch (mounted_with found number plain) mounted.volume.volume new is.shows
-    (mounted_stands uuid epoch plain found plain.geometry.log number mounted.volume.volume.objects.uploads new
-    may.left.stored.valid has none).0
+    let has = removal_keeps_up_to uuid old new epoch plain landed all.removes may.volume in
+    let none = none_is_past uuid epoch plain landed old new is_uuid may.volume all in
+    made_with_store uuid epoch (mounted_from landed found plain) mounted.volume.volume new
+    (with_cache_shows owner plain found landed old disk mounted may of_volume is)
+    (mounted_stands uuid epoch plain landed found plain.geometry.log mounted.volume.volume.objects.uploads new
+    may.valid has none).0
 
 pub mounted_without_stands : MountedWithoutStands
-mounted_without_stands uuid log epoch plain number old new mounted is_uuid may mounts begins =
-    let is = mounts plain number may.stored in
+mounted_without_stands uuid log epoch plain landed old new mounted is_uuid may mounts of_volume begins =
+    let number = recovered_number landed plain in
+    let is = mounts (found_in landed plain) number may.stored in
     let begun : BeginsEpoch uuid number (epoch + 1) old new =
     subst (λ n. BeginsEpoch uuid n (epoch + 1) old new) is.number_is begins in
     let (middle, all, next) = begun in
     let uploads : UploadsState = mounted.volume.volume.objects.uploads in
-    let has = removal_keeps_up_to uuid number old middle all.removes epoch plain may.volume in
-    let none = none_is_past uuid epoch plain number old middle is_uuid may.volume all in
+    let has = removal_keeps_up_to uuid old middle epoch plain landed all.removes may.volume in
+    let none = none_is_past uuid epoch plain landed old middle is_uuid may.volume all in
     let stands =
-    (mounted_stands uuid epoch plain plain.cache.log.last log number uploads middle may.stored.valid has none).1 in
-    made_with_store uuid (epoch + 1) (mounted_without log number plain) mounted.volume.volume new is.shows
-    (next_stands uuid epoch middle new next (mounted_without log number plain) uploads stands)
+    (mounted_stands uuid epoch plain landed plain.cache.log.last log uploads middle may.valid has none).1 in
+    made_with_store uuid (epoch + 1) (mounted_on log landed plain) mounted.volume.volume new
+    (without_shows uuid log epoch plain landed old mounted may of_volume is)
+    (next_stands uuid epoch middle new next (mounted_on log landed plain) uploads stands)

@@ -1,6 +1,6 @@
 -- Contract: what a volume is that was created with its store, and how its creation ends.
 use Rattle.std.specs.Prelude.{◌≡◌, ◌≢◌, ℕ, ◌⊎◌, Option, None, IsSome, IfSome, Bool, true, false, List, []}
-use Rattle.std.specs.Prelude.{Result, Ok, Err, IfOk, IfErr, OnOk}
+use Rattle.std.specs.Prelude.{Result, Ok, Err, IfOk, IfErr}
 use Rattle.lsvd_base.specs.declared.geometry.Geometry.{Geometry}
 use Rattle.lsvd_fault.specs.Faults.{Counts}
 use Rattle.lsvd_names.specs.Names.{super_name, epoch_name, numbered_name}
@@ -13,6 +13,7 @@ use Rattle.lsvd_objstore.specs.declared.error.StoreError.TheVariants as store_er
 use Rattle.ckpt_format.specs.Checkpoint.{IsCheckpoint}
 use Rattle.object_stream.specs.Replay.{object_name}
 use Rattle.object_uploads.specs.State.{UploadsState}
+use Rattle.obj_log.specs.State.{ObjLogState}
 use Rattle.super_format.specs.declared.super_object.Super.{Super}
 use Rattle.stopped_volume.specs.Expected.{expected_alone}
 use Rattle.stopped_volume.specs.Opening.{IsCheckpointOf}
@@ -24,7 +25,7 @@ use Rattle.super_recovery.specs.declared.error.SuperError.TheVariants as super_e
 use Rattle.super_recovery.specs.Put.{PutsSuper, PutsEpoch}
 use Rattle.refine_mount.specs.Found.{HasObjects}
 use Rattle.refine_store.specs.Stored.{StoreStands}
-use Rattle.vol_core.specs.Creating.{CostsFormat, CreatedOf}
+use Rattle.vol_core.specs.Creating.{IsNewList, CostsFormat, CreatedOf}
 use Rattle.vol_core.specs.Volume.{SteppedVolume}
 use Rattle.vol_recover.specs.declared.creating.CreateError.{CreateError}
 use Rattle.vol_recover.specs.declared.creating.CreateError.TheVariants.{Exists, StoreFault, DeviceFault, OutOfMemory}
@@ -144,8 +145,9 @@ StaysWithSuper uuid old new = IfSome old (λ objects. IsSome (found objects (sup
 
 -- ---- before the cache is made
 
--- All of a volume but its super object was put into a store that has none of it.
-pub record PreparedOf (uuid : List ℕ) (geometry : Geometry) (old new : Option Objects) : Type 0 where
+-- All of a volume but its super object was put into a store that has none of it, and its list begins with its first object.
+pub record PreparedOf (uuid : List ℕ) (geometry : Geometry) (old new : Option Objects) (list : ObjLogState) : Type 0 where
+  pub is_new : IsNewList uuid geometry list
   pub puts : Becomes (PutsEpochToo uuid geometry) old new
   pub absent : IsSuperAbsent uuid old
 
@@ -157,9 +159,9 @@ pub record NotPreparedOf (uuid : List ℕ) (geometry : Geometry) (old new : Opti
   pub no_device : error ≡ DeviceFault → ⊥
 
 -- What a creation does before it makes the cache.
-pub record PrepareOf (uuid : List ℕ) (geometry : Geometry) (old new : StoreState) (result : Result (Unit {0}) CreateError) :
+pub record PrepareOf (uuid : List ℕ) (geometry : Geometry) (old new : StoreState) (result : Result ObjLogState CreateError) :
     Type 0 where
-  pub made : OnOk result (PreparedOf uuid geometry old.objects new.objects)
+  pub made : IfOk result (PreparedOf uuid geometry old.objects new.objects)
   pub none : IfErr result (NotPreparedOf uuid geometry old.objects new.objects)
   pub untouched : StaysWithSuper uuid old.objects new.objects
   pub faults : Counts (ends_by_put result) old.faults new.faults

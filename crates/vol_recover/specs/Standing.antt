@@ -1,6 +1,6 @@
 -- Contract: from its creation on, and over mounts, a volume stands with its store; and what a stop leaves of the two is what the
 -- next mount asks for. A stop in the midst of a mount leaves of the store what a mount that fails may leave.
-use Rattle.std.specs.Prelude.{ℕ, ◌+◌, ◌⊎◌, Some, OnSome, IsTrue, List}
+use Rattle.std.specs.Prelude.{ℕ, ◌+◌, ◌≤◌, ◌⊎◌, Some, OnSome, IsTrue, List}
 use Rattle.lsvd_base.specs.declared.geometry.Geometry.{Geometry}
 use Rattle.lsvd_base.specs.Limits.{is_within_limits}
 use Rattle.lsvd_device.specs.Device.{DiskState, HoldsNow, HoldsSince}
@@ -12,13 +12,16 @@ use Rattle.lsvd_objstore.specs.Store.{ReceiptState}
 use Rattle.stopped_volume.specs.Device.{CacheOwner, owner_with}
 use Rattle.stopped_volume.specs.Objects.{landed_in}
 use Rattle.plain_disk.specs.declared.log.PlainCommit.{PlainCommit}
-use Rattle.plain_disk.specs.State.{PlainState, created_volume}
-use Rattle.plain_disk.specs.Stops.{recovered_number}
+use Rattle.object_stream.specs.Landed.{Numbers}
+use Rattle.plain_disk.specs.State.{PlainState, created_volume, history_length, frontier_end}
+use Rattle.plain_disk.specs.Stops.{recovered_number, mounted_from, mounted_on}
+use Rattle.plain_disk.specs.Found.{found_in, landed_to}
+use Rattle.plain_disk.specs.Valid.{IsPlainVolume, IsCommitWithin}
 use Rattle.object_recovery.specs.Checkpoints.{expected_of}
 use Rattle.object_recovery.specs.Recovery.{RemovesAllPast, MayRemovePast}
 use Rattle.refine_log.specs.Fuses.{fuse_in}
 use Rattle.refine_log.specs.Stops.{IsFoundCommit}
-use Rattle.refine_mount.specs.Mounted.{mounted_with, sizes_with, mounted_without}
+use Rattle.refine_mount.specs.Mounted.{sizes_with}
 use Rattle.refine_mount.specs.Stops.{StopKeepsMount}
 use Rattle.refine_store.specs.Stored.{StoreStands, HasVolumeUpTo}
 use Rattle.vol_core.specs.declared.event.Event.{Event}
@@ -29,7 +32,7 @@ use Rattle.vol_core.specs.Stops.{MayBeLeftBy, HasOwnCommits, KeepsNow}
 use Rattle.vol_core.specs.Volume.{VolumeState, SteppedVolume}
 use Rattle.vol_core.specs.View.{all_log_entries, volume_disk, volume_uploads, volume_uuid}
 use Rattle.vol_mount.specs.Epochs.{BeginsEpoch, MayBeginEpoch}
-use Rattle.vol_mount.specs.Mounted.{MountedState}
+use Rattle.vol_mount.specs.Mounted.{MountedState, IsOfVolume}
 use Rattle.vol_mount.specs.Mounting.{IsStored, IsLeft, MountsStored, MountsLeft}
 use Rattle.vol_recover.specs.Creating.{IsNewTo, CreatedWithStore}
 
@@ -48,25 +51,30 @@ IsMadeWithStore uuid epoch plain volume objects =
 
 -- ---- what a mount asks for
 
--- A store may be mounted without the cache on a log of so many sectors: it has a plain volume up to its object of a number, that
--- before the first missing one.
-pub record MayMountWithout (uuid : List ℕ) (log epoch : ℕ) (plain : PlainState) (number : ℕ) (objects : Objects) : Type 0 where
-  pub stored : IsStored uuid (sizes_with log plain.geometry) plain number (Some objects)
-  pub volume : HasVolumeUpTo uuid epoch plain number objects
+-- A store may be mounted without the cache on a log of so many sectors: it has a plain volume up to the object before the first
+-- missing number, of these that have landed, as a mount finds it.
+pub record MayMountWithout (uuid : List ℕ) (log epoch : ℕ) (plain : PlainState) (landed : Numbers) (objects : Objects) :
+    Type 0 where
+  pub valid : IsPlainVolume plain
+  pub stored :
+      IsStored uuid (sizes_with log plain.geometry) (found_in landed plain) (recovered_number landed plain) (Some objects)
+  pub volume : HasVolumeUpTo uuid epoch plain landed objects
 
 -- and with it: the device reads as this commit of the plain volume
-pub record MayMountWith (owner : CacheOwner) (plain : PlainState) (found : PlainCommit) (number : ℕ) (objects : Objects)
+pub record MayMountWith (owner : CacheOwner) (plain : PlainState) (found : PlainCommit) (landed : Numbers) (objects : Objects)
     (disk : DiskState) : Type 0 where
-  pub left : IsLeft owner plain.geometry plain found number (Some objects) disk
-  pub volume : HasVolumeUpTo owner.uuid owner.epoch plain number objects
+  pub valid : IsPlainVolume plain
+  pub commit : IsCommitWithin plain.cache.log.size (frontier_end plain) (history_length plain) found
+  pub later : plain.cache.log.last.tail.seq ≤ found.tail.seq
+  pub left : IsLeft owner plain.geometry (found_in landed plain) found (recovered_number landed plain) (Some objects) disk
+  pub volume : HasVolumeUpTo owner.uuid owner.epoch plain landed objects
 
 -- whatever a stop leaves of a medium, a device that has it may be mounted with these objects: it reads as a commit with P
 abbrev pub StopMayMount : (owner : CacheOwner) → PlainState → (P : PlainCommit → Type 0) → Objects → Medium → Type 0
 StopMayMount owner plain P objects medium =
     (disk : DiskState) → HasNow (λ now. MayLeave medium now.bytes) disk.moments
     → (found : PlainCommit) × P found
-    × MayMountWith owner plain found (recovered_number (landed_in objects (expected_of owner.uuid plain.geometry)) plain) objects
-    disk
+    × MayMountWith owner plain found (landed_in objects (expected_of owner.uuid plain.geometry)) objects disk
 
 -- ---- creations and mounts
 
@@ -80,20 +88,22 @@ CreatedStands =
 -- one that was mounted with its cache does in the epoch that there was
 abbrev pub MountedWithStands : Type 0
 MountedWithStands =
-    (owner : CacheOwner) (plain : PlainState) (found : PlainCommit) (number : ℕ) (old new : Objects) (disk : DiskState)
+    (owner : CacheOwner) (plain : PlainState) (found : PlainCommit) (landed : Numbers) (old new : Objects) (disk : DiskState)
     (mounted : MountedState)
-    → IsUuid owner.uuid → MayMountWith owner plain found number old disk
-    → MountsLeft owner plain.geometry (Some old) disk mounted → RemovesAllPast owner.uuid mounted.number old new
-    → IsMadeWithStore owner.uuid owner.epoch (mounted_with found number plain) mounted.volume.volume new
+    → IsUuid owner.uuid → MayMountWith owner plain found landed old disk
+    → MountsLeft owner plain.geometry (Some old) disk mounted → IsOfVolume owner plain.geometry mounted
+    → RemovesAllPast owner.uuid mounted.number old new
+    → IsMadeWithStore owner.uuid owner.epoch (mounted_from landed found plain) mounted.volume.volume new
 
 -- and one without it in the next epoch
 abbrev pub MountedWithoutStands : Type 0
 MountedWithoutStands =
-    (uuid : List ℕ) (log epoch : ℕ) (plain : PlainState) (number : ℕ) (old new : Objects) (mounted : MountedState)
-    → IsUuid uuid → MayMountWithout uuid log epoch plain number old
+    (uuid : List ℕ) (log epoch : ℕ) (plain : PlainState) (landed : Numbers) (old new : Objects) (mounted : MountedState)
+    → IsUuid uuid → MayMountWithout uuid log epoch plain landed old
     → MountsStored uuid (sizes_with log plain.geometry) (Some old) mounted
+    → IsOfVolume (owner_with uuid (epoch + 1)) (sizes_with log plain.geometry) mounted
     → BeginsEpoch uuid mounted.number (epoch + 1) old new
-    → IsMadeWithStore uuid (epoch + 1) (mounted_without log number plain) mounted.volume.volume new
+    → IsMadeWithStore uuid (epoch + 1) (mounted_on log landed plain) mounted.volume.volume new
 
 -- ---- stops
 
@@ -105,7 +115,7 @@ StopLeavesStore =
     → StandsWithStore (volume_uuid stepped.volume) epoch plain stepped.volume objects
     → IsTrue (is_within_limits (sizes_with log plain.geometry))
     → MayMountWithout (volume_uuid stepped.volume) log epoch plain
-    (recovered_number (landed_in objects (expected_of (volume_uuid stepped.volume) plain.geometry)) plain) objects
+    (landed_in objects (expected_of (volume_uuid stepped.volume) plain.geometry)) objects
 
 -- And with the cache, by whatever a stop leaves of the device: that reads as the last commit of the plain volume or as the
 -- unfinished one.
@@ -134,20 +144,21 @@ StepLeavesBoth {R} state =
 -- be mounted with each other again: as the same plain volume, or as that which the mount was to make. Either makes the same.
 abbrev pub StoppedWithCache : Type 0
 StoppedWithCache =
-    (owner : CacheOwner) (plain : PlainState) (found : PlainCommit) (number : ℕ) (old new : Objects)
+    (owner : CacheOwner) (plain : PlainState) (found : PlainCommit) (landed : Numbers) (old new : Objects)
     (disk left : DiskState) (medium : Medium)
-    → MayMountWith owner plain found number old disk → MayRemovePast (Unit {0}) (expected_of owner.uuid plain.geometry) old new
-    → StopKeepsMount owner plain found number medium
+    → MayMountWith owner plain found landed old disk → MayRemovePast (Unit {0}) (expected_of owner.uuid plain.geometry) old new
+    → StopKeepsMount owner (found_in landed plain) found (recovered_number landed plain) medium
     → HasNow (λ now. MayLeave medium now.bytes) left.moments
-    → MayMountWith owner plain found number new left
-    ⊎ MayMountWith owner (mounted_with found number plain) (mounted_with found number plain).cache.log.last number new left
+    → MayMountWith owner plain found landed new left
+    ⊎ MayMountWith owner (mounted_from landed found plain) (mounted_from landed found plain).cache.log.last
+    (landed_to (recovered_number landed plain) landed) new left
 
 -- And of one without the cache, what is left of the store may be mounted without it again: as the same plain volume, or in the
 -- next epoch as that which the mount was to make. This makes the same.
 abbrev pub StoppedWithoutCache : Type 0
 StoppedWithoutCache =
-    (uuid : List ℕ) (log epoch : ℕ) (plain : PlainState) (number : ℕ) (old new : Objects) → IsUuid uuid
-    → MayMountWithout uuid log epoch plain number old
+    (uuid : List ℕ) (log epoch : ℕ) (plain : PlainState) (landed : Numbers) (old new : Objects) → IsUuid uuid
+    → MayMountWithout uuid log epoch plain landed old
     → MayBeginEpoch (Unit {0}) (expected_of uuid plain.geometry) (epoch + 1) old new
-    → MayMountWithout uuid log epoch plain number new ⊎ MayMountWithout uuid log (epoch + 1) (mounted_without log number plain)
-    number new
+    → MayMountWithout uuid log epoch plain landed new
+    ⊎ MayMountWithout uuid log (epoch + 1) (mounted_on log landed plain) (landed_to (recovered_number landed plain) landed) new

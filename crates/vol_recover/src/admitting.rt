@@ -43,7 +43,7 @@ pub fn admit_log<S: Store>(
         Err(error) => return Err(error),
     };
     if !described.geometry.is_within_limits() {
-        return Err(refuse_log(alloc, store, uuid, described.geometry));
+        return Err(refuse_log(alloc, store, described));
     }
     Ok(())
 }

@@ -17,13 +17,14 @@ use lsvd_device::Disk;
 use lsvd_fault::Failed;
 use lsvd_names::ObjName;
 use lsvd_objstore::{Store, StoreError};
+use obj_log::ObjLog;
 use object_format::{Expected, ObjectWriter, Rows};
 use std::alloc::{AllocError, Global};
 use super_format::Super;
 use super_recovery::{SuperError, has_super, put_epoch, put_super};
 use thiserror::Error;
 use uuid::Uuid;
-use vol_core::{Volume, create as create_cache};
+use vol_core::{Volume, create as create_cache, new_list};
 
 /// Why a volume was not created.
 #[derive(Clone, Copy, Debug, PartialEq, Eq, Error)]
@@ -108,10 +109,11 @@ pub fn create<D: Disk, S: Store>(
     requires is_disk { IsDisk (D.state disk) }
     ensures { CreationOf D.state uuid geometry (D.state disk) (S.state store.old) (S.state store.new) result }
 {
-    if let Err(error) = prepare(alloc, store, uuid, &geometry) {
-        return Err((disk, error));
-    }
-    let volume = match create_cache(alloc, disk, uuid, geometry) {
+    let objects = match prepare(alloc, store, uuid, &geometry) {
+        Ok(objects) => objects,
+        Err(error) => return Err((disk, error)),
+    };
+    let volume = match create_cache(alloc, disk, objects) {
         Ok(volume) => volume,
         Err((disk, failed)) => return Err((disk, failed.into())),
     };
@@ -121,21 +123,26 @@ pub fn create<D: Disk, S: Store>(
     }
 }
 
-// Refuses a volume that there is, and else puts all of a new one but its super object.
+// Refuses a volume that there is, and else puts all of a new one but its super object. Answers the list of
+// the volume, which begins with its first object. The geometry is within the limits (a condition).
 fn prepare<S: Store>(
     alloc: Global,
     store: &mut S,
     uuid: Uuid,
     geometry: &Geometry,
-) -> Result<(), CreateError>
+) -> Result<ObjLog<S::Receipt>, CreateError>
+    requires { IsTrue (is_within_limits geometry.now) }
     ensures { PrepareOf uuid geometry.now (S.state store.old) (S.state store.new) result }
 {
     if has_super(alloc, store, uuid)? {
         return Err(CreateError::Exists);
     }
-    put_first(alloc, store, uuid, geometry)?;
-    put_epoch(alloc, store, uuid, 0)?;
-    Ok(())
+    let receipt = put_first(alloc, store, uuid, geometry)?;
+    if let Err(error) = put_epoch(alloc, store, uuid, 0) {
+        drop(receipt);
+        return Err(error.into());
+    }
+    Ok(new_list(alloc, uuid, *geometry, receipt)?)
 }
 
 // Puts the super object of a volume.
@@ -164,13 +171,14 @@ fn complete<S: Store>(
     Ok(())
 }
 
-// Puts the first object of a volume.
+// Puts the first object of a volume. Answers what the store gave for it.
 fn put_first<S: Store>(
     alloc: Global,
     store: &mut S,
     uuid: Uuid,
     geometry: &Geometry,
-) -> Result<(), CreateError>
+) -> Result<S::Receipt, CreateError>
+    ensures named { IfOk result (λ receipt. (S.Receipt.state receipt).name ≡ numbered_name uuid 1) }
     ensures ok { OnOk result (Becomes (PutsFirst uuid geometry.now) (S.state store.old).objects
         (S.state store.new).objects) }
     ensures err { OnErr result (Becomes (MayBecome (PutsFirst uuid geometry.now)) (S.state store.old).objects
@@ -179,8 +187,7 @@ fn put_first<S: Store>(
     ensures faults { Counts (ends_by_put result) (S.state store.old).faults (S.state store.new).faults }
 {
     let object = first_object(alloc, uuid, geometry)?;
-    store.put(alloc, &first_name(uuid), &object)?;
-    Ok(())
+    Ok(store.put(alloc, &first_name(uuid), &object)?)
 }
 
 // The name of the first object of a volume.

@@ -2,37 +2,32 @@ ghost use Rattle.std.specs.Prelude.{◌≡◌, false, IfOk, IfErr, IfSome, IsTru
 ghost use Rattle.lsvd_base.specs.Limits.{is_within_limits};
 ghost use Rattle.log_room.specs.Room.{max_log};
 ghost use Rattle.lsvd_fault.specs.Faults.{Counts};
+ghost use Rattle.lsvd_objstore.specs.Objects.{AreNamesOf, Lists};
 ghost use Rattle.lsvd_objstore.specs.Store.{StoreState, ReceiptState, OnlyCounts};
 ghost use Rattle.stopped_volume.specs.Store.{TellsBytes};
 ghost use Rattle.vol_mount.specs.Refusals.{refuses, is_device_fault};
 ghost use Rattle.vol_mount.specs.Steps.{ends_by_store};
 ghost use Rattle.vol_recover.specs.Describing.{OfVolume, SaysVolume, IsWhyNotDescribed};
 
-use lsvd_base::Geometry;
 use lsvd_objstore::{Receipt, Store};
 use refusals::Refusal;
 use std::alloc::Global;
 use super_recovery::find_volume;
 use uuid::Uuid;
-use vol_mount::MountError;
+use vol_mount::{MountError, StoredVolume};
 
-/// What a store says of a volume.
-#[derive(Clone, Copy)]
-pub(crate) struct Described {
-    /// Its sizes, with the log of a device.
-    pub(crate) geometry: Geometry,
-    /// Its newest epoch.
-    pub(crate) epoch: u64,
-}
-
-/// Finds the volume with this uuid, for a device whose log has so many sectors. The store is only read. The
-/// sizes keep their limits, but the log, which is not judged.
+/// Finds the volume with this uuid, for a device whose log has so many sectors. The store is only read, and
+/// listed once. The sizes keep their limits, but the log, which is not judged.
 pub(crate) fn describe<S: Store>(
     alloc: Global,
     store: &mut S,
     uuid: Uuid,
     log: u64,
-) -> Result<Described, MountError>
+) -> Result<StoredVolume, MountError>
+    ensures uuid { IfOk result (λ described. described.uuid ≡ uuid) }
+    ensures names { IfOk result (λ described. AreNamesOf uuid described.names) }
+    ensures listed { IfOk result (λ described.
+        IfSome (S.state store.old).objects (λ objects. Lists uuid objects described.names)) }
     ensures log { IfOk result (λ described. described.geometry.log ≡ log) }
     ensures sizes { IfOk result (λ described.
         IsTrue (is_within_limits (record described.geometry { log = max_log }))) }
@@ -54,8 +49,10 @@ pub(crate) fn describe<S: Store>(
     if 0 < count {
         return Err(MountError::Refused(Refusal::HasAncestors { count }));
     }
-    Ok(Described {
+    Ok(StoredVolume {
+        uuid,
         geometry: found.volume.geometry(log),
         epoch: found.epoch,
+        names: found.names,
     })
 }

@@ -52,11 +52,10 @@ pub fn mount_kept<D: Disk, S: Store>(
         Err(error) => return Err((disk, error)),
     };
     if !described.geometry.is_within_limits() {
-        let error = refuse_log(alloc, store, uuid, described.geometry);
+        let error = refuse_log(alloc, store, described);
         return Err((disk, error));
     }
-    let (geometry, epoch) = (described.geometry, described.epoch);
-    mount_with_cache(alloc, disk, store, uuid, geometry, epoch)
+    mount_with_cache(alloc, disk, store, described)
 }
 
 /// Mounts the volume with this uuid without its cache, on a device that is formatted anew: finds it in the
@@ -91,11 +90,10 @@ pub fn mount_lost<D: Disk, S: Store>(
         Err(error) => return Err((disk, error)),
     };
     if !described.geometry.is_within_limits() {
-        let error = refuse_log(alloc, store, uuid, described.geometry);
+        let error = refuse_log(alloc, store, described);
         return Err((disk, error));
     }
-    let (geometry, epoch) = (described.geometry, described.epoch);
-    mount_without_cache(alloc, disk, store, uuid, geometry, epoch)
+    mount_without_cache(alloc, disk, store, described)
 }
 
 // How many sectors the log of a device has: those whole past byte 4,096.

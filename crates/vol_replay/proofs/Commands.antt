@@ -17,7 +17,7 @@ use Rattle.replay_script.specs.declared.command.Command.{Command}
 use Rattle.replay_script.specs.declared.command.Command.TheVariants as commands
 use Rattle.replay_script.specs.RunText.{IsRunText}
 use Rattle.transcript.specs.Letters.{is_dash, fits_writes, fates_of, kept_by, under_way, fits_objects, landed_by}
-use Rattle.transcript.specs.Answers.{State, TellsReply, AnswersStep, released_by, FitKept, FitLost, AnswersOn, IsNew}
+use Rattle.transcript.specs.Answers.{State, TellsReply, AnswersStep, released_by, removed_by, FitKept, FitLost, AnswersOn, IsNew}
 use Rattle.transcript.specs.Answers.{text_of_mount}
 use Rattle.transcript.specs.declared.reason.LineReason.TheVariants.{NotAllowed, Letters}
 use Rattle.replay_rig.specs.declared.answer.Answer.{Answer}
@@ -26,7 +26,8 @@ use Rattle.vol_replay.specs.declared.line.LineRefusal.{LineRefusal}
 use Rattle.vol_replay.specs.declared.line.LineRefusal.TheVariants.{Bad}
 use Rattle.replay_rig.specs.Answers.{SaysReply}
 use Rattle.vol_replay.specs.Answers.{TellsAnswer}
-use Rattle.replay_rig.specs.Steps.{AnswersEvent, AnswersRead, FailsPut, StopsAfter, IsMountTold, MountsKeptRig, MountsLostRig}
+use Rattle.replay_rig.specs.Steps.{AnswersEvent, AnswersRead, AnswersRemoval, FailsPut, StopsAfter, IsMountTold}
+use Rattle.replay_rig.specs.Steps.{MountsKeptRig, MountsLostRig}
 use Rattle.vol_replay.specs.Lines.{is_crash, AnswersIn, AnswersCommand, IsUnanswered}
 use Rattle.replay_rig.specs.Rig.{RigState, ShowsPlain}
 
@@ -44,7 +45,7 @@ tells_reply (replies.Sealed number) answer text says tells = subst (λ a. TellsA
 tells_reply (replies.Taken number) answer text says tells = subst (λ a. TellsAnswer a text) says tells
 tells_reply (replies.Done frontier) answer text says tells = subst (λ a. TellsAnswer a text) says tells
 tells_reply replies.Returned answer text says tells = absurd says
-tells_reply (replies.Removing number) answer text says tells = absurd says
+tells_reply (replies.Removing number) answer text says tells = subst (λ a. TellsAnswer a text) says tells
 tells_reply replies.Removed answer text says tells = absurd says
 tells_reply replies.GivenBack answer text says tells = absurd says
 tells_reply (replies.Told writes sealed frontier checkpoint) answer text says tells = subst (λ a. TellsAnswer a text) says tells
@@ -75,6 +76,15 @@ read_in lba sectors answer old new h (Some plain) shown =
     let event : PlainEvent = events.Look lba sectors in
     let next : State = Some (released_by (plain_reply plain event) (plain_after event plain)) in
     (next, λ text tells. (tells_reply (plain_reply plain event) answer text both.0 tells, refl), both.1)
+
+pub removal_in : (answer : Answer) (old new : RigState) → AnswersRemoval answer old new
+    → (state : State) → AnswersIn commands.Remove answer (Some old) (Some new) state
+removal_in answer old new h None shown = absurd shown
+removal_in answer old new h (Some plain) shown =
+    let both = h.by plain shown in
+    let reply : PlainReply = plain_reply plain events.TakeRemove in
+    let next : State = Some (removed_by reply (plain_after events.TakeRemove plain)) in
+    (next, λ text tells. (tells_reply reply answer text both.0 tells, refl), both.1)
 
 -- ---- the end of a put
 
@@ -221,7 +231,7 @@ pub keep_in : (device objects : List ℕ) (list : List Fate) (pending : ℕ) (an
     (Some old) (Some new) state
 keep_in device objects list pending answer old new fit count are h None shown = absurd shown
 keep_in device objects list pending answer old new fit count are h (Some plain) shown =
-    let landed : Numbers = landed_by plain.window objects in
+    let landed : Numbers = landed_by plain objects in
     let kept : List Bool = map plain_cache.is_kept list in
     let read : kept ≡ kept_by (length plain.cache.pending) device =
     ap (map plain_cache.is_kept) (are ∙ ap (λ n. fates_of n device) (count plain shown)) in
@@ -235,7 +245,7 @@ pub lost_in : (device objects : List ℕ) (answer : Answer) (old new : RigState)
     → (state : State) → AnswersIn (commands.CrashLost device objects) answer (Some old) (Some new) state
 lost_in device objects answer old new fit h None shown = absurd shown
 lost_in device objects answer old new fit h (Some plain) shown =
-    let landed : Numbers = landed_by plain.window objects in
+    let landed : Numbers = landed_by plain objects in
     let mounted : PlainState = mounted_lost landed plain in
     let both = h.by plain shown in
     (Some mounted, λ text tells. (fit plain shown, (mount_told landed plain mounted answer text both.0 tells, refl)), both.1)
@@ -254,6 +264,8 @@ not_new (commands.Zero lba sectors) other is = is
 not_new (commands.Read lba sectors) other is = is
 not_new commands.Flush other is = is
 not_new commands.Seal other is = is
+not_new commands.SealCheckpoint other is = is
+not_new commands.Remove other is = is
 not_new commands.TakeJob other is = is
 not_new (commands.JobDone number) other is = is
 not_new (commands.JobFailed number) other is = is
@@ -284,6 +296,8 @@ no_crash (commands.Zero lba sectors) keep lost = refl
 no_crash (commands.Read lba sectors) keep lost = refl
 no_crash commands.Flush keep lost = refl
 no_crash commands.Seal keep lost = refl
+no_crash commands.SealCheckpoint keep lost = refl
+no_crash commands.Remove keep lost = refl
 no_crash commands.TakeJob keep lost = refl
 no_crash (commands.JobDone number) keep lost = refl
 no_crash (commands.JobFailed number) keep lost = refl

@@ -3,9 +3,9 @@ use Rattle.std.specs.Prelude.{◌≡◌, ℕ, List, ◌++◌, codes, decimal}
 use Rattle.replay_script.specs.RunText.{IsRunText}
 use Rattle.transcript.specs.Answers.{text_of_mount}
 use Rattle.replay_rig.specs.declared.answer.Answer.{Answer}
-use Rattle.replay_rig.specs.declared.answer.Answer.TheVariants.{Created, Entries, Sectors, Sealed, Put, Done, Failed, Counts}
-use Rattle.replay_rig.specs.declared.answer.Answer.TheVariants.{Stopping, Mounted, BatchFull, EntriesFull, NoRoom, Range, Nothing}
-use Rattle.replay_rig.specs.declared.answer.Answer.TheVariants.{Busy, Fault}
+use Rattle.replay_rig.specs.declared.answer.Answer.TheVariants.{Created, Entries, Sectors, Sealed, Put, Done, Failed, Gone}
+use Rattle.replay_rig.specs.declared.answer.Answer.TheVariants.{Counts, Stopping, Mounted, BatchFull, EntriesFull, NoRoom}
+use Rattle.replay_rig.specs.declared.answer.Answer.TheVariants.{Range, Nothing, Busy, Fault}
 
 -- the text that tells an answer
 abbrev pub TellsAnswer : Answer → List ℕ → Type 0
@@ -16,6 +16,7 @@ TellsAnswer (Sealed number) text = text ≡ codes "sealed " ++ decimal number
 TellsAnswer (Put number) text = text ≡ codes "put " ++ decimal number
 TellsAnswer (Done frontier) text = text ≡ codes "done " ++ decimal frontier
 TellsAnswer (Failed number) text = text ≡ codes "failed " ++ decimal number
+TellsAnswer (Gone number) text = text ≡ codes "gone " ++ decimal number
 TellsAnswer (Counts entries sealed frontier) text =
     text ≡ codes "info " ++ decimal entries ++ codes " " ++ decimal sealed ++ codes " " ++ decimal frontier
 TellsAnswer (Stopping calls) text = text ≡ codes "stop " ++ decimal calls

@@ -192,6 +192,28 @@ fn seal(rig: &mut Rig) -> Result<Answer, LineRefusal>
     Ok(rig.seal()?)
 }
 
+// Seals a checkpoint.
+fn seal_checkpoint(rig: &mut Rig) -> Result<Answer, LineRefusal>
+    requires { rig.old.lines < 2 ^ 40 }
+    ensures ok { IfOk result (λ answer. AnswersCommand Command.SealCheckpoint answer (Some rig.old)
+        (Some rig.new)) }
+    ensures refused { IfErr result (IsUnanswered (Some rig.old) Command.SealCheckpoint) }
+    ensures lines { rig.new.lines ≤ rig.old.lines + 1 }
+{
+    Ok(rig.seal_checkpoint()?)
+}
+
+// Removes the lowest object that may be removed.
+fn remove(rig: &mut Rig) -> Result<Answer, LineRefusal>
+    requires { rig.old.lines < 2 ^ 40 }
+    ensures ok { IfOk result (λ answer. AnswersCommand Command.Remove answer (Some rig.old)
+        (Some rig.new)) }
+    ensures refused { IfErr result (IsUnanswered (Some rig.old) Command.Remove) }
+    ensures lines { rig.new.lines ≤ rig.old.lines + 1 }
+{
+    Ok(rig.remove()?)
+}
+
 // Begins the put of the lowest ready object.
 fn begin_put(rig: &mut Rig) -> Result<Answer, LineRefusal>
     requires { rig.old.lines < 2 ^ 40 }
@@ -232,6 +254,8 @@ fn answer_step(alloc: Global, rig: &mut Rig, command: Command) -> Result<Answer,
         Command::TakeJob => begin_put(rig),
         Command::JobDone { number } => finish_put(alloc, rig, number),
         Command::JobFailed { number } => fail_put(rig, number),
+        Command::SealCheckpoint => seal_checkpoint(rig),
+        Command::Remove => remove(rig),
         Command::Status => status(rig),
         Command::Stop { calls } => stop(rig, calls),
         Command::New(_) => Err(LineRefusal::Bad(LineReason::NotAllowed)),

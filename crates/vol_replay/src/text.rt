@@ -35,6 +35,7 @@ fn push_text(answers: &mut Vec<u8>, answer: &Answer) -> Result<(), AllocError>
         Answer::Put(number) => push_counted(answers, b"put ", *number),
         Answer::Done(frontier) => push_counted(answers, b"done ", *frontier),
         Answer::Failed(number) => push_counted(answers, b"failed ", *number),
+        Answer::Gone(number) => push_counted(answers, b"gone ", *number),
         Answer::Counts {
             entries,
             sealed,

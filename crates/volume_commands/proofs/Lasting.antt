@@ -13,25 +13,26 @@ use Rattle.stopped_volume.specs.Device.{owner_with}
 use Rattle.stopped_volume.specs.Store.{TellsBytes}
 use Rattle.stopped_volume.specs.Super.{HasVolume}
 use Rattle.plain_disk.specs.State.{PlainState, created_volume, history_length}
+use Rattle.plain_disk.specs.Valid.{StopKeepsAcknowledged}
 use Rattle.object_recovery.specs.Recovery.{RemovesAllPast}
 use Rattle.refine_log.specs.Fuses.{fuse_in}
 use Rattle.refine_mount.specs.Mounted.{sizes_with}
+use Rattle.refine_store.specs.Laws.{LeftHasVolume}
 use Rattle.vol_core.specs.Step.{passing}
 use Rattle.vol_core.specs.Stops.{HasOwnCommits}
 use Rattle.vol_mount.specs.Epochs.{BeginsEpoch}
 use Rattle.vol_mount.specs.Mounting.{MountsStored, MountsLeft}
 use Rattle.vol_recover.specs.Creating.{CreatedWithStore}
 use Rattle.vol_recover.specs.Mounting.{MountsKept, MountsLost}
-use Rattle.vol_recover.specs.Standing.{StandsWithStore, IsMadeWithStore}
+use Rattle.vol_recover.specs.Standing.{StandsWithStore, IsMadeWithStore, CreatedStands, MountedWithStands}
+use Rattle.vol_recover.specs.Standing.{MountedWithoutStands, StopLeavesStore, StopLeavesBoth}
 use Rattle.vol_recover.proofs.ForCallers.{made_kept, made_lost}
-use Rattle.vol_recover.proofs.StandLemmas.{created_stands, mounted_with_stands, mounted_without_stands}
-use Rattle.volume_owner.specs.Acts.{Moment, moment_of}
+use Rattle.volume_owner.specs.Acts.{Moment, moment_of, IsMadeOfActs}
 use Rattle.volume_owner.specs.Calls.{KeepsOtherNames}
 use Rattle.volume_owner.specs.History.{GoesOn}
-use Rattle.volume_owner.specs.Standing.{StandAt, HasStore}
+use Rattle.volume_owner.specs.Standing.{StandAt, HasStore, KeepsStore, ActsKeepStore}
 use Rattle.volume_owner.proofs.PlainLemmas.{goes_on_nothing}
 use Rattle.volume_owner.proofs.StepLemmas.{goes_on_more}
-use Rattle.volume_owner.proofs.StoreLemmas.{made_keeps}
 use Rattle.volume_server.specs.History.{Grows}
 use Rattle.volume_server.specs.Serving.{ListenerState, ConnectionState, ClientsGrow}
 use Rattle.volume_commands.specs.Closing.{IsLetGo}
@@ -53,6 +54,9 @@ goes_on_from added disk made after is = record {
   objects = is.objects;
   frontier = is.frontier;
   committed = is.committed;
+  checkpoint = is.checkpoint;
+  given_out = is.given_out;
+  removed = is.removed;
 }
 
 -- a history to which nothing is added stays as long
@@ -60,7 +64,28 @@ same_length : (plain after : PlainState) → GoesOn [] plain after → history_l
 same_length plain after is =
     ap (λ es. plain.end + length es) (sym (append-nil plain.entries)) ∙ sym (ap (λ (p : PlainState). history_length p) is.opens)
 
+-- ---- the laws of the crates below
+
+-- that a volume which is made stands with its store, and what a stop leaves of the two
+pub record StandingLaws : Type 0 where
+  pub created : CreatedStands
+  pub with_cache : MountedWithStands
+  pub without : MountedWithoutStands
+  pub store : StopLeavesStore
+  pub both : StopLeavesBoth
+
+-- that a mount finds what was acknowledged, and that acts of an owner keep the store standing
+pub record KeepingLaws {R : Type 0} (state : R → ReceiptState) : Type 0 where
+  pub kept : StopKeepsAcknowledged
+  pub left : LeftHasVolume
+  pub acts : ActsKeepStore state
+
 -- ---- clients and a drain
+
+made_keeps : {R : Type 0} (state : R → ReceiptState) → ActsKeepStore state → (added : List Entry) (old new : Moment)
+    → IsMadeOfActs state added old new → KeepsStore added old new
+made_keeps state acts_keep added old new made =
+    subst (λ es. KeepsStore es old new) made.entered (acts_keep made.acts old new made.done)
 
 -- a volume that stood with its store was served and drained, and was let go
 module _ {R : Type 0} (state : R → ReceiptState) (epoch : ℕ) (made : PlainState) (first last closing : Moment)
@@ -68,7 +93,7 @@ module _ {R : Type 0} (state : R → ReceiptState) (epoch : ℕ) (made : PlainSt
     (own : HasOwnCommits (owner_with first.volume.volume.objects.uploads.uuid epoch) first.volume.volume)
     (with_store : IsMadeWithStore first.volume.volume.objects.uploads.uuid epoch made first.volume.volume objects)
     (added : List Entry) (grows : Grows added first last) (entries : ℕ) (drains : Drains state entries last closing)
-    (let_go : IsLetGo closing.volume) where
+    (let_go : IsLetGo closing.volume) (standing : StandingLaws) (keeping : KeepingLaws state) where
   abbrev uuid : List ℕ
   uuid = first.volume.volume.objects.uploads.uuid
 
@@ -86,7 +111,8 @@ module _ {R : Type 0} (state : R → ReceiptState) (epoch : ℕ) (made : PlainSt
       × (entries ≡ history_length whole.after)
   serves_whole =
       let (middle, middle_shows, middle_goes, middle_stands) = grows.stands shown with_store.shows in
-      let (after, shows, goes, stands_after) = made_keeps state [] last closing drains.calls.acts middle middle_shows in
+      let (after, shows, goes, stands_after) =
+      made_keeps state keeping.acts [] last closing drains.calls.acts middle middle_shows in
       let goes_on : GoesOn added shown after =
       subst (λ es. GoesOn es shown after) (append-nil added) (goes_on_more added [] shown middle after middle_goes goes) in
       let mid = told_after (KeepsOtherNames uuid) first.store.objects last.store.objects objects told grows.store in
@@ -102,7 +128,8 @@ module _ {R : Type 0} (state : R → ReceiptState) (epoch : ℕ) (made : PlainSt
       let own_now : HasOwnCommits (owner_with its_uuid epoch) closing.volume.volume =
       subst (λ (u : List ℕ). HasOwnCommits (owner_with u epoch) closing.volume.volume) (sym same_uuid)
       (drains.calls.steps.own (owner_with uuid epoch) (grows.own (owner_with uuid epoch) own)) in
-      let in_objects = drained_in_objects its_uuid epoch after closing.volume.volume left.0 stands_now drains.drained in
+      let in_objects =
+      drained_in_objects keeping.kept keeping.left its_uuid epoch after closing.volume.volume left.0 stands_now drains.drained in
       let disk : DiskState = closing.volume.volume.log.commits.disk in (
         record {
           after = after;
@@ -111,19 +138,19 @@ module _ {R : Type 0} (state : R → ReceiptState) (epoch : ℕ) (made : PlainSt
           told = left.1;
           whole =
               subst (λ (u : List ℕ). IsLeftWhole (owner_with u epoch) after left.0 disk) same_uuid
-              (is_left_whole closing.volume epoch after left.0 let_go own_now stands_now in_objects);
+              (is_left_whole standing.store standing.both closing.volume epoch after left.0 let_go own_now stands_now in_objects);
         },
         drains.count middle middle_shows ∙ same_length middle after goes,
       )
 
 -- ---- a run of `create`
 
-pub created_is_whole : CreatedIsWhole
-created_is_whole request uuid disk disk_left before after new_to creates =
+pub created_is_whole : StandingLaws → CreatedIsWhole
+created_is_whole standing request uuid disk disk_left before after new_to creates =
     let sizes = sizes_of request in
     let (left, told, puts) = creates.created.puts in
     let with_store =
-    created_stands uuid sizes disk before left creates.volume
+    standing.created uuid sizes disk before left creates.volume
     (subst (λ (o : Option Objects). CreatedWithStore uuid sizes disk (Some before) o creates.volume) told creates.created)
     new_to in
     let created = creates.created.volume.is in
@@ -134,7 +161,8 @@ created_is_whole request uuid disk disk_left before after new_to creates =
     subst (λ u. StandsWithStore u 0 shown volume left) (sym created.uuid_is) with_store in
     let its_own : HasOwnCommits (owner_with volume.objects.uploads.uuid 0) volume =
     subst (λ (u : List ℕ). HasOwnCommits (owner_with u 0) volume) (sym created.uuid_is) created.own in
-    let whole = is_left_whole creates.volume 0 shown left creates.let_go its_own its_store (omega arith) in
+    let whole =
+    is_left_whole standing.store standing.both creates.volume 0 shown left creates.let_go its_own its_store (omega arith) in
     record {
       after = shown;
       goes_on = goes_on_from [] volume.log.commits.disk made shown (goes_on_nothing shown);
@@ -148,7 +176,8 @@ created_is_whole request uuid disk disk_left before after new_to creates =
 -- ---- a run of `serve`
 
 module _ {D R L K : Type 0} (disk_state : D → DiskState) (receipt_state : R → ReceiptState) (listener_state : L → ListenerState)
-    (coming : L → Option (List K)) (link_state : K → ConnectionState) (grow : ClientsGrow receipt_state link_state) where
+    (coming : L → Option (List K)) (link_state : K → ConnectionState) (grow : ClientsGrow receipt_state link_state)
+    (standing : StandingLaws) (keeping : KeepingLaws receipt_state) where
   module _ (request : ServeRequest) (links : Option (List K)) (disk disk_left : DiskState) (store store_left : StoreState)
       (old new : Option (List ℕ))
       (serves : ServesOn disk_state receipt_state listener_state coming link_state request links disk disk_left store store_left
@@ -171,7 +200,7 @@ module _ {D R L K : Type 0} (disk_state : D → DiskState) (receipt_state : R �
         subst (λ (u : List ℕ). HasOwnCommits (owner_with u epoch) volume) (sym uuid_is) own in
         let whole =
         serves_whole receipt_state epoch made first by.last (moment_of serves.closing store_left) objects told its_own its_store
-        added grown.0.1 by.entries by.drains serves.let_go in
+        added grown.0.1 by.entries by.drains serves.let_go standing keeping in
         let leaves = whole.0 in
         let disk_is : serves.closing.volume.log.commits.disk ≡ disk_left = sym serves.disk_is in
         record {
@@ -191,7 +220,7 @@ module _ {D R L K : Type 0} (disk_state : D → DiskState) (receipt_state : R �
         }
 
   pub served_with_is_whole : ServedWithIsWhole disk_state receipt_state listener_state coming link_state
-  served_with_is_whole request links disk disk_left store store_left old new epoch plain found number objects tells is_uuid kept
+  served_with_is_whole request links disk disk_left store store_left old new epoch plain found landed objects tells is_uuid kept
       told log_is may serves =
       let uuid : List ℕ = request.volume in
       let ends : MountsKept disk_state (TellsBytes receipt_state) uuid disk store serves.mid (Ok serves.mounted) =
@@ -207,10 +236,11 @@ module _ {D R L K : Type 0} (disk_state : D → DiskState) (receipt_state : R �
       told_after (RemovesAllPast uuid serves.mounted.number) store.objects serves.mid.objects objects told mount.removed in
       served_is_whole request links disk disk_left store store_left old new serves epoch _ left left_told volume.uuid_is
       volume.own
-      (mounted_with_stands (owner_with uuid epoch) plain found number objects left disk serves.mounted is_uuid may mounts removed)
+      (standing.with_cache (owner_with uuid epoch) plain found landed objects left disk serves.mounted is_uuid may mounts volume
+      removed)
 
   pub served_without_is_whole : ServedWithoutIsWhole disk_state receipt_state listener_state coming link_state
-  served_without_is_whole request links disk disk_left store store_left old new epoch plain number objects tells is_uuid lost told
+  served_without_is_whole request links disk disk_left store store_left old new epoch plain landed objects tells is_uuid lost told
       may serves =
       let uuid : List ℕ = request.volume in
       let log : ℕ = log_of disk.size in
@@ -238,4 +268,4 @@ module _ {D R L K : Type 0} (disk_state : D → DiskState) (receipt_state : R �
       (mount.begun tells sizes epoch refl has) in
       served_is_whole request links disk disk_left store store_left old new serves (epoch + 1) _ left left_told volume.uuid_is
       volume.own
-      (mounted_without_stands uuid log epoch plain number objects left serves.mounted is_uuid may mounts begins)
+      (standing.without uuid log epoch plain landed objects left serves.mounted is_uuid may mounts volume begins)

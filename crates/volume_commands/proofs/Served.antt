@@ -8,6 +8,7 @@ use Rattle.lsvd_device.specs.Device.{DiskState}
 use Rattle.lsvd_fault.specs.Faults.{Counts, CountsOne}
 use Rattle.lsvd_objstore.specs.Store.{StoreState, ReceiptState}
 use Rattle.plain_disk.specs.State.{history_length}
+use Rattle.upload_window.specs.declared.object.OpenObject.{OpenObject}
 use Rattle.vol_core.specs.Volume.{VolumeState, SteppedVolume}
 use Rattle.vol_mount.specs.Costs.{CostsMount}
 use Rattle.vol_mount.specs.Mounted.{MountedState}
@@ -131,6 +132,8 @@ pub mounted_is_idle : (uuid : List ℕ) (log : ℕ) (mounted : MountedState) →
 mounted_is_idle uuid log mounted (geometry, epoch, log_is, limits, is) = record {
   puts = ap (list_any (λ object. object.is_started)) is.acknowledged;
   plans = is.plans;
+  none_out = is.none_out;
+  few = subst (λ (objects : List OpenObject). length objects ≤ 16) (sym is.acknowledged) (omega arith);
 }
 
 pub mounted_has_room : (uuid : List ℕ) (log : ℕ) (mounted : MountedState) → IsOfSomeVolume uuid log mounted

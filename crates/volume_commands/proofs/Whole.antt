@@ -10,39 +10,35 @@ use Rattle.object_stream.specs.Landed.{Numbers}
 use Rattle.object_stream.specs.Stream.{end_at, last_number}
 use Rattle.upload_window.specs.Window.{WindowState, below_lowest}
 use Rattle.stopped_volume.specs.Device.{owner_with}
-use Rattle.stopped_volume.specs.Objects.{landed_in}
 use Rattle.plain_disk.specs.declared.log.PlainCommit.{PlainCommit}
-use Rattle.plain_disk.specs.State.{PlainState, stream_in, history_length, frontier_of}
-use Rattle.plain_disk.specs.Valid.{IsPlainVolume, MayLand}
-use Rattle.plain_disk.proofs.EndLemmas.{ends_grow, ends_from}
-use Rattle.plain_disk.proofs.StopLemmas.{recovers_frontier}
-use Rattle.object_recovery.specs.Checkpoints.{expected_of}
+use Rattle.plain_disk.specs.State.{PlainState, stream_in, history_length, frontier_of, frontier_end}
+use Rattle.plain_disk.specs.Stops.{recovered_end}
+use Rattle.plain_disk.specs.Valid.{IsPlainVolume, MayLand, StopKeepsAcknowledged}
+use Rattle.plain_disk.proofs.EndLemmas.{ends_from}
 use Rattle.refine_log.specs.Stops.{IsFoundCommit}
-use Rattle.refine_mount.specs.Mounted.{end_of_object}
-use Rattle.refine_store.proofs.LeftLemmas.{left_has_objects}
+use Rattle.refine_store.specs.Laws.{LeftHasVolume}
 use Rattle.vol_core.specs.Stops.{HasOwnCommits}
 use Rattle.vol_core.specs.Volume.{VolumeState, SteppedVolume}
-use Rattle.vol_recover.specs.Standing.{StandsWithStore, StopMayMount}
-use Rattle.vol_recover.proofs.StopLemmas.{stop_leaves_store, stop_leaves_both}
+use Rattle.vol_recover.specs.Standing.{StandsWithStore, StopMayMount, StopLeavesStore, StopLeavesBoth}
 use Rattle.volume_owner.specs.Calls.{IsDrained}
 use Rattle.volume_commands.specs.Closing.{IsLetGo}
-use Rattle.volume_commands.specs.Lasting.{number_found, ComesBackWith, IsLeftWhole}
+use Rattle.volume_commands.specs.Lasting.{landed_of, ComesBackWith, IsLeftWhole}
 
 -- ---- in the objects
 
 -- each entry of a volume that was drained is in an object that a mount finds
-module _ (uuid : List ℕ) (epoch : ℕ) (plain : PlainState) (volume : VolumeState) (objects : Objects)
-    (with_store : StandsWithStore uuid epoch plain volume objects) (drained : IsDrained volume) where
+module _ (kept : StopKeepsAcknowledged) (left_has : LeftHasVolume) (uuid : List ℕ) (epoch : ℕ) (plain : PlainState)
+    (volume : VolumeState) (objects : Objects) (with_store : StandsWithStore uuid epoch plain volume objects)
+    (drained : IsDrained volume) where
   abbrev landed : Numbers
-  landed = landed_in objects (expected_of uuid plain.geometry)
+  landed = landed_of uuid plain objects
 
   valid : IsPlainVolume plain
   valid = with_store.shows.valid
 
   may_land : MayLand plain landed
   may_land =
-      let stands = with_store.stands in
-      (left_has_objects uuid epoch plain stands.puts objects valid stands.are stands.left).1
+      let stands = with_store.stands in (left_has uuid epoch plain stands.puts objects valid stands.are stands.left).may
 
   -- none is on its way
   all_acknowledged : frontier_of plain ≡ last_number (stream_in plain)
@@ -53,17 +49,16 @@ module _ (uuid : List ℕ) (epoch : ℕ) (plain : PlainState) (volume : VolumeSt
   none_unsealed : drop (end_at (stream_in plain) (last_number (stream_in plain)) - plain.end) plain.entries ≡ []
   none_unsealed = sym with_store.shows.objects.stream.entries ∙ drained.unsealed
 
-  pub drained_in_objects : history_length plain ≤ end_of_object (number_found uuid plain objects) plain
+  pub drained_in_objects : history_length plain ≤ recovered_end landed plain
   drained_in_objects =
       let last : ℕ = end_at (stream_in plain) (last_number (stream_in plain)) in
       let none : length (drop (last - plain.end) plain.entries) ≡ 0 = ap (λ es. length es) none_unsealed in
       let long = length-drop (last - plain.end) plain.entries in
       let from = ends_from plain (last_number (stream_in plain)) valid in
-      let found : last_number (stream_in plain) ≤ number_found uuid plain objects =
-      subst (λ n. n ≤ number_found uuid plain objects) all_acknowledged (recovers_frontier plain landed valid may_land) in
-      let grows = ends_grow (stream_in plain) (last_number (stream_in plain)) (number_found uuid plain objects)
-      valid.stream.ends found in
-      omega (arith, none, long, from, grows)
+      let reach : frontier_end plain ≤ recovered_end landed plain = (kept plain landed [] valid may_land).1 in
+      let all : last ≤ recovered_end landed plain =
+      subst (λ n. end_at (stream_in plain) n ≤ recovered_end landed plain) all_acknowledged reach in
+      omega (arith, none, long, from, all)
 
 -- ---- whole
 
@@ -72,22 +67,23 @@ now_as : (P Q : Medium → Type 0) (moments : List Medium) → ((medium : Medium
 now_as P Q [] follows holds = tt
 now_as P Q (now ∷ past) follows holds = follows now holds
 
-module _ (stepped : SteppedVolume) (epoch : ℕ) (plain : PlainState) (objects : Objects) (let_go : IsLetGo stepped)
+module _ (leaves_store : StopLeavesStore) (leaves_both : StopLeavesBoth) (stepped : SteppedVolume) (epoch : ℕ)
+    (plain : PlainState) (objects : Objects) (let_go : IsLetGo stepped)
     (own : HasOwnCommits (owner_with stepped.volume.objects.uploads.uuid epoch) stepped.volume)
     (with_store : StandsWithStore stepped.volume.objects.uploads.uuid epoch plain stepped.volume objects)
-    (in_objects : history_length plain ≤ end_of_object (number_found stepped.volume.objects.uploads.uuid plain objects) plain)
+    (in_objects : history_length plain ≤ recovered_end (landed_of stepped.volume.objects.uploads.uuid plain objects) plain)
   where
     abbrev uuid : List ℕ
     uuid = stepped.volume.objects.uploads.uuid
 
-    abbrev number : ℕ
-    number = number_found uuid plain objects
+    abbrev landed_now : Numbers
+    landed_now = landed_of uuid plain objects
 
     whole_at : (count : ℕ) → history_length plain ≤ count → take (count - plain.end) plain.entries ≡ plain.entries
     whole_at count enough = take_all (count - plain.end) plain.entries (omega (arith, enough))
 
     comes_back : (found : PlainCommit) → ComesBackWith uuid plain objects found
-    comes_back found = whole_at (max (end_of_object number plain) found.head.seq) (omega (arith, in_objects))
+    comes_back found = whole_at (max (recovered_end landed_now plain) found.head.seq) (omega (arith, in_objects))
 
     pub is_left_whole : IsLeftWhole (owner_with uuid epoch) plain objects stepped.volume.log.commits.disk
     is_left_whole =
@@ -95,8 +91,8 @@ module _ (stepped : SteppedVolume) (epoch : ℕ) (plain : PlainState) (objects :
         record {
           log_is = sym with_store.shows.valid.size ∙ ap (λ (r : Room). r.log) with_store.shows.log.room ∙ let_go.log;
           without = λ log limits. (
-            stop_leaves_store stepped epoch plain objects log let_go.is_volume with_store limits,
-            whole_at (end_of_object number plain) in_objects,
+            leaves_store stepped epoch plain objects log let_go.is_volume with_store limits,
+            whole_at (recovered_end landed_now plain) in_objects,
           );
           with_cache =
               now_as (StopMayMount (owner_with uuid epoch) plain IsFound objects)
@@ -104,6 +100,5 @@ module _ (stepped : SteppedVolume) (epoch : ℕ) (plain : PlainState) (objects :
               stepped.volume.log.commits.disk.moments
               (λ medium may disk is_left.
               let mount = may disk is_left in (mount.0, comes_back mount.0, mount.2))
-              (stop_leaves_both stepped epoch plain objects let_go.is_volume (let_go.keeps (owner_with uuid epoch) own)
-              with_store);
+              (leaves_both stepped epoch plain objects let_go.is_volume (let_go.keeps (owner_with uuid epoch) own) with_store);
         }

@@ -13,11 +13,12 @@ use Rattle.command_line.specs.declared.serve.ServeRequest.{ServeRequest}
 use Rattle.stopped_volume.specs.Device.{CacheOwner, owner_with}
 use Rattle.stopped_volume.specs.Objects.{landed_in}
 use Rattle.stopped_volume.specs.Store.{TellsBytes}
+use Rattle.object_stream.specs.Landed.{Numbers}
 use Rattle.plain_disk.specs.declared.log.PlainCommit.{PlainCommit}
 use Rattle.plain_disk.specs.State.{PlainState, created_volume, history_length}
-use Rattle.plain_disk.specs.Stops.{recovered_number}
+use Rattle.plain_disk.specs.Stops.{mounted_from, mounted_on}
 use Rattle.object_recovery.specs.Checkpoints.{expected_of}
-use Rattle.refine_mount.specs.Mounted.{mounted_with, sizes_with, mounted_without}
+use Rattle.refine_mount.specs.Mounted.{sizes_with}
 use Rattle.vol_recover.specs.Creating.{IsNewTo}
 use Rattle.vol_recover.specs.Standing.{MayMountWith, MayMountWithout, StopMayMount}
 use Rattle.volume_owner.specs.Acts.{moment_of}
@@ -29,19 +30,19 @@ use Rattle.volume_commands.specs.Mounting.{ServesOn}
 
 -- ---- what is left
 
--- the number that a mount finds of a plain volume in these objects: that before the first missing one
-abbrev pub number_found : (uuid : List ℕ) → PlainState → Objects → ℕ
-number_found uuid plain objects = recovered_number (landed_in objects (expected_of uuid plain.geometry)) plain
+-- which of a plain volume's objects have landed, of these
+abbrev pub landed_of : (uuid : List ℕ) → PlainState → Objects → Numbers
+landed_of uuid plain objects = landed_in objects (expected_of uuid plain.geometry)
 
 -- a mount without the cache may be made, on a log of so many sectors, and what it makes has each entry
 abbrev pub ComesBackWithout : (uuid : List ℕ) → (epoch : ℕ) → PlainState → Objects → (log : ℕ) → Type 0
 ComesBackWithout uuid epoch plain objects log =
-    MayMountWithout uuid log epoch plain (number_found uuid plain objects) objects
-    × ((mounted_without log (number_found uuid plain objects) plain).entries ≡ plain.entries)
+    MayMountWithout uuid log epoch plain (landed_of uuid plain objects) objects
+    × ((mounted_on log (landed_of uuid plain objects) plain).entries ≡ plain.entries)
 
 -- what a mount with the cache makes, which reads as this commit, has each entry
 abbrev pub ComesBackWith : (uuid : List ℕ) → PlainState → Objects → (found : PlainCommit) → Type 0
-ComesBackWith uuid plain objects found = (mounted_with found (number_found uuid plain objects) plain).entries ≡ plain.entries
+ComesBackWith uuid plain objects found = (mounted_from (landed_of uuid plain objects) found plain).entries ≡ plain.entries
 
 -- A plain volume is left whole: of these objects it comes back without the cache, on each log within the limits, and with
 -- whatever a stop leaves of the disk.
@@ -88,12 +89,12 @@ abbrev pub ServedWithIsWhole : {D R L K : Type 0} → (D → DiskState) → (R �
     → (L → Option (List K)) → (K → ConnectionState) → Type 0
 ServedWithIsWhole {D} {R} {L} {K} disk_state receipt_state listener_state coming link_state =
     (request : ServeRequest) (links : Option (List K)) (disk disk_left : DiskState) (store store_left : StoreState)
-    (old new : Option (List ℕ)) (epoch : ℕ) (plain : PlainState) (found : PlainCommit) (number : ℕ) (objects : Objects)
+    (old new : Option (List ℕ)) (epoch : ℕ) (plain : PlainState) (found : PlainCommit) (landed : Numbers) (objects : Objects)
     → TellsBytes receipt_state → IsUuid request.volume → request.is_lost ≡ false → store.objects ≡ Some objects
-    → plain.geometry.log ≡ log_of disk.size → MayMountWith (owner_with request.volume epoch) plain found number objects disk
+    → plain.geometry.log ≡ log_of disk.size → MayMountWith (owner_with request.volume epoch) plain found landed objects disk
     → (serves : ServesOn disk_state receipt_state listener_state coming link_state request links disk disk_left store store_left
     old new)
-    → ServesWhole serves epoch (mounted_with found number plain)
+    → ServesWhole serves epoch (mounted_from landed found plain)
 
 -- Where the store may be mounted without the cache on the log of a disk, a run without it leaves what that mount made whole so,
 -- in the next epoch.
@@ -101,9 +102,9 @@ abbrev pub ServedWithoutIsWhole : {D R L K : Type 0} → (D → DiskState) → (
     → (L → Option (List K)) → (K → ConnectionState) → Type 0
 ServedWithoutIsWhole {D} {R} {L} {K} disk_state receipt_state listener_state coming link_state =
     (request : ServeRequest) (links : Option (List K)) (disk disk_left : DiskState) (store store_left : StoreState)
-    (old new : Option (List ℕ)) (epoch : ℕ) (plain : PlainState) (number : ℕ) (objects : Objects)
+    (old new : Option (List ℕ)) (epoch : ℕ) (plain : PlainState) (landed : Numbers) (objects : Objects)
     → TellsBytes receipt_state → IsUuid request.volume → request.is_lost ≡ true → store.objects ≡ Some objects
-    → MayMountWithout request.volume (log_of disk.size) epoch plain number objects
+    → MayMountWithout request.volume (log_of disk.size) epoch plain landed objects
     → (serves : ServesOn disk_state receipt_state listener_state coming link_state request links disk disk_left store store_left
     old new)
-    → ServesWhole serves (epoch + 1) (mounted_without (log_of disk.size) number plain)
+    → ServesWhole serves (epoch + 1) (mounted_on (log_of disk.size) landed plain)

@@ -1,6 +1,6 @@
 -- What an attempt to enter an entry does.
-use Rattle.std.proofs.Common.{arith, ◌≡◌, ℕ, zero, suc, ◌+◌, ◌<◌, ◌⊎◌, inl, inr, Bool, true, false, cond, List, [], ◌∷◌, ◌++◌}
-use Rattle.std.proofs.Common.{length, length-append, refl, sym, ◌∙◌, ap, subst}
+use Rattle.std.proofs.Common.{arith, ◌≡◌, ℕ, zero, suc, ◌+◌, ◌<◌, ◌≤◌, ◌⊎◌, inl, inr, Bool, true, false, cond, List, [], ◌∷◌}
+use Rattle.std.proofs.Common.{◌++◌, length, length-append, refl, sym, ◌∙◌, ap, subst}
 use Rattle.lsvd_base.specs.declared.entry.Entry.{Entry}
 use Rattle.lsvd_base.specs.declared.entry.Entry.TheVariants as entries
 use Rattle.lsvd_base.specs.Range.{is_in_range}
@@ -15,6 +15,7 @@ use Rattle.plain_disk.specs.declared.event.PlainReply.TheVariants as replies
 use Rattle.plain_disk.specs.State.{PlainState, history_length, unsealed_entries}
 use Rattle.plain_disk.specs.Entries.{enter_reply, after_entering}
 use Rattle.plain_disk.specs.Step.{plain_reply, plain_after}
+use Rattle.plain_disk.specs.Valid.{IsPlainVolume}
 use Rattle.refine_log.specs.Fuses.{fuse_in}
 use Rattle.vol_core.specs.declared.reply.EntryRefusal.{EntryRefusal}
 use Rattle.vol_core.specs.declared.reply.EntryRefusal.TheVariants as refusals
@@ -38,6 +39,7 @@ use Rattle.volume_owner.proofs.EntryLemmas.{entered_is_answered, answered_is_ent
 use Rattle.volume_owner.proofs.ReplyLemmas.{is_again, reply_cases}
 use Rattle.volume_owner.proofs.TellsLemmas.{tells_entered}
 use Rattle.volume_owner.proofs.WindowLemmas.{any_started}
+use Rattle.volume_owner.proofs.EventLeaves.{LeavesObjects, nothing_leaves, event_leaves}
 use Rattle.volume_owner.proofs.StepLemmas.{goes_on_passing, shown_work, length_is, IsIdlePlain, shown_idle, idle_shown}
 
 -- ---- what is told
@@ -75,6 +77,10 @@ pub record IsIn {R : Type 0} (entry : Entry) (reply : Reply R) (plain : PlainSta
   pub goes : GoesOn (entry ∷ []) plain after
   pub window : after.window ≡ plain.window
   pub pins : after.pins ≡ plain.pins
+  pub removal : after.removal ≡ plain.removal
+  pub given_out : after.given_out ≡ plain.given_out
+  pub removed : after.removed ≡ plain.removed
+  pub leaves : LeavesObjects plain after
 
 -- it was not: the volume has the same entries and objects, and the reply tells why
 pub record IsOut {R : Type 0} (state : R → ReceiptState) (entry : Entry) (reply : Reply R) (plain : PlainState)
@@ -86,7 +92,17 @@ pub record IsOut {R : Type 0} (state : R → ReceiptState) (entry : Entry) (repl
   pub unsealed : unsealed_entries after ≡ unsealed_entries plain
   pub window : after.window ≡ plain.window
   pub pins : after.pins ≡ plain.pins
+  pub removal : after.removal ≡ plain.removal
+  pub given_out : after.given_out ≡ plain.given_out
+  pub removed : after.removed ≡ plain.removed
+  pub leaves : LeavesObjects plain after
   pub why : ((left : Fuse) × Tells state old reply (enter_reply (passing left plain) entry)) ⊎ (lacks_memory reply ≡ true)
+
+entry_leaves : (plain : PlainState) (entry : Entry) (left now : Fuse) → IsPlainVolume plain
+    → LeavesObjects plain (passing now (after_entering entry (passing left plain)))
+entry_leaves plain entry left now valid =
+    subst (λ (p : PlainState). LeavesObjects plain (passing now p)) (after_entry (passing left plain) entry)
+    (event_leaves left now plain (asked_of entry) valid)
 
 entering_by : {R : Type 0} (state : R → ReceiptState) (entry : Entry) (reply : Reply R) (plain : PlainState)
     (old new : VolumeState)
@@ -106,6 +122,10 @@ entering_by state entry reply plain old new left now true shows is tells now_sho
           (subst (λ b. GoesOn (entered_if b entry) ready (after_entering entry ready)) is goes);
       window = refl;
       pins = refl;
+      removal = refl;
+      given_out = refl;
+      removed = refl;
+      leaves = entry_leaves plain entry left now shows.valid;
     })
 entering_by state entry reply plain old new left now false shows is tells now_shows =
     let ready : PlainState = passing left plain in
@@ -124,6 +144,10 @@ entering_by state entry reply plain old new left now false shows is tells now_sh
       unsealed = ap (λ (es : List Entry). unsealed_entries (record plain { entries = es })) same;
       window = refl;
       pins = refl;
+      removal = refl;
+      given_out = refl;
+      removed = refl;
+      leaves = entry_leaves plain entry left now shows.valid;
       why = inl (left, tells);
     })
 
@@ -149,16 +173,22 @@ entering state entry reply plain old new shows (inr n) = inr (record {
   unsealed = refl;
   window = refl;
   pins = refl;
+  removal = refl;
+  given_out = refl;
+  removed = refl;
+  leaves = nothing_leaves plain;
   why = inr n.lacks;
 })
 
 -- ---- the attempt
 
-still_idle : (plain after : PlainState) → after.window ≡ plain.window → after.pins ≡ plain.pins → IsIdlePlain plain
-    → IsIdlePlain after
-still_idle plain after window pins idle = record {
+still_idle : (plain after : PlainState) → after.window ≡ plain.window → after.pins ≡ plain.pins
+    → after.removal ≡ plain.removal → IsIdlePlain plain → IsIdlePlain after
+still_idle plain after window pins removal idle = record {
   puts = ap (λ (w : WindowState). any_started w.objects) window ∙ idle.puts;
   plans = pins ∙ idle.plans;
+  none_out = removal ∙ idle.none_out;
+  few = subst (λ (w : WindowState). length w.objects ≤ 16) (sym window) idle.few;
 }
 
 none_or_some : (n : ℕ) → (n ≡ 0) ⊎ (0 < n)
@@ -231,8 +261,8 @@ module _ {R : Type 0} (state : R → ReceiptState) (entry : Entry) (reply : Repl
   entering_idle plain shows idle =
       let was = shown_idle old.volume plain shows idle in
       elim (entering state entry reply plain old.volume new.volume shows (of.step.step plain shows)) [
-        | inl e ↦ idle_shown new.volume e.after e.shows (still_idle plain e.after e.window e.pins was)
-        | inr o ↦ idle_shown new.volume o.after o.shows (still_idle plain o.after o.window o.pins was)
+        | inl e ↦ idle_shown new.volume e.after e.shows (still_idle plain e.after e.window e.pins e.removal was)
+        | inr o ↦ idle_shown new.volume o.after o.shows (still_idle plain o.after o.window o.pins o.removal was)
       ]
 
   -- one that may be tried again leaves what is left to help with, and there is some

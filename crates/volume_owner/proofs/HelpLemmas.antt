@@ -1,8 +1,9 @@
 -- What the steps of a help do: a put begins, is done, or fails; an object is sealed.
-use Rattle.std.proofs.Common.{arith, ◌≡◌, ℕ, ◌+◌, ◌*◌, ◌-◌, ◌<◌, ◌==◌, ◌⊎◌, inl, inr, Bool, true, false, cond, not, ◌&&◌, List}
+use Rattle.std.proofs.Common.{arith, ◌≡◌, ℕ, ◌+◌, ◌*◌, ◌-◌, ◌<◌, ◌≤◌, ◌==◌, ◌⊎◌, inl, inr}
+use Rattle.std.proofs.Common.{Bool, true, false, cond, not, ◌&&◌, List}
 use Rattle.std.proofs.Common.{[], ◌∷◌, ◌++◌, length, take, length-append, length-drop, refl, sym, ◌∙◌, ap, subst}
 use Rattle.std.specs.Prelude.{Option, Some, None, Result, Ok, Err, IfOk, if◌then◌else◌}
-use Rattle.std.specs.List.{All, list_any}
+use Rattle.std.specs.List.{list_any}
 use Rattle.std.proofs.lemmas.Bool.Decides.{nat_tests}
 use Rattle.std.proofs.lemmas.List.{take_all}
 use Rattle.lsvd_base.specs.declared.entry.Entry.{Entry}
@@ -15,7 +16,8 @@ use Rattle.object_stream.specs.declared.object.StreamObject.{StreamObject}
 use Rattle.object_stream.specs.Stream.{end_after, end_at, last_number, GoesTo, EndsFollow}
 use Rattle.object_stream.proofs.StreamLemmas.{end_in_parts}
 use Rattle.upload_window.specs.declared.object.OpenObject.{OpenObject}
-use Rattle.upload_window.specs.Window.{WindowState, has_number, lowest_ready, is_started, with_started, marked, acknowledged}
+use Rattle.upload_window.specs.Window.{WindowState, Ascends, has_number, lowest_ready, is_started}
+use Rattle.upload_window.specs.Window.{with_started, marked, acknowledged}
 use Rattle.upload_window.specs.Window.{entered, below_open}
 use Rattle.object_uploads.specs.State.{JobState}
 use Rattle.object_uploads.specs.Changes.{IsJobOf}
@@ -28,6 +30,7 @@ use Rattle.plain_disk.specs.State.{PlainState, stream_in, unsealed_entries}
 use Rattle.plain_disk.specs.Objects.{is_under_way, is_busy, has_unsealed, end_of_next, reply_of_taken, window_after_take}
 use Rattle.plain_disk.specs.Objects.{window_after_done, seal_reply, after_seal}
 use Rattle.plain_disk.specs.Reads.{are_pinned}
+use Rattle.plain_disk.specs.Removals.{to_remove, reply_of_removal, is_out}
 use Rattle.plain_disk.specs.Step.{plain_reply, plain_after}
 use Rattle.plain_disk.specs.Valid.{IsPlainVolume}
 use Rattle.plain_disk.proofs.EndLemmas.{ends_from}
@@ -58,6 +61,10 @@ use Rattle.volume_owner.proofs.StepLemmas.{shown_work, shown_idle, idle_shown, p
 abbrev pub is_silent : PlainEvent → Bool
 is_silent (events.Release numbers) = true
 is_silent events.Seal = true
+is_silent events.SealCheckpoint = true
+is_silent events.TakeRemove = true
+is_silent (events.RemoveDone number) = true
+is_silent (events.RemoveFailed number) = true
 is_silent events.TakeJob = true
 is_silent (events.JobDone job) = true
 is_silent (events.JobFailed job) = true
@@ -71,6 +78,11 @@ either_reply false x y not_x not_y = not_y
 taken_reply : (lowest : Option ℕ) → reply_of_taken lowest ≡ replies.Fault → ⊥
 taken_reply None is = cc
 taken_reply (Some number) is = cc
+
+removal_reply : (out lowest : Option ℕ) → reply_of_removal out lowest ≡ replies.Fault → ⊥
+removal_reply None (Some number) is = cc
+removal_reply None None is = cc
+removal_reply (Some other) lowest is = cc
 
 silent_reply : (plain : PlainState) (event : PlainEvent) → is_silent event ≡ true → plain_reply plain event ≡ replies.Fault → ⊥
 silent_reply plain (events.Write lba body) silent is = cc
@@ -89,10 +101,13 @@ silent_reply plain (events.JobDone job) silent is =
     (λ e. cc) (λ e. cc) is
 silent_reply plain (events.JobFailed job) silent is =
     either_reply (is_under_way job plain.window) replies.Returned replies.Nothing (λ e. cc) (λ e. cc) is
-silent_reply plain events.SealCheckpoint silent is = cc
-silent_reply plain events.TakeRemove silent is = cc
-silent_reply plain (events.RemoveDone number) silent is = cc
-silent_reply plain (events.RemoveFailed number) silent is = cc
+silent_reply plain events.SealCheckpoint silent is =
+    either_reply (is_busy plain) replies.Busy (replies.Sealed (plain.window.last + 1)) (λ e. cc) (λ e. cc) is
+silent_reply plain events.TakeRemove silent is = removal_reply plain.removal (to_remove plain) is
+silent_reply plain (events.RemoveDone number) silent is =
+    either_reply (is_out number plain.removal) replies.Removed replies.Nothing (λ e. cc) (λ e. cc) is
+silent_reply plain (events.RemoveFailed number) silent is =
+    either_reply (is_out number plain.removal) replies.GivenBack replies.Nothing (λ e. cc) (λ e. cc) is
 silent_reply plain events.Status silent is = cc
 
 -- no call of the device fails in it
@@ -119,6 +134,7 @@ record IsAfterTake {R : Type 0} (state : R → ReceiptState) (reply : Reply R) (
   shows : Shows new after
   unsealed : unsealed_entries after ≡ unsealed_entries plain
   pins : after.pins ≡ plain.pins
+  removal : after.removal ≡ plain.removal
   window : after.window ≡ window_after_take (lowest_ready plain.window.objects) plain.window
   tells : Tells state old reply (reply_of_taken (lowest_ready plain.window.objects))
 
@@ -134,6 +150,7 @@ after_take_by state reply plain old new shows (inl s) =
       shows = subst (λ e. Shows new (passing now (plain_after e ready))) s.asks s.shows;
       unsealed = refl;
       pins = refl;
+      removal = refl;
       window = refl;
       tells = subst (λ e. Tells state old reply (plain_reply ready e)) s.asks s.tells;
     }
@@ -210,6 +227,9 @@ module _ {R : Type 0} (state : R → ReceiptState) (reply : Reply R) (old new : 
           named = number.1.named ∙ ap (λ u. numbered_name u n) (sym of.step.sizes.uuid);
           alone = ap (λ (o : List OpenObject). any_started (with_started n false o)) now ∙ begun_alone n objects was.puts;
           plans = plans_shown new.volume after.after after.shows (after.pins ∙ was.plans);
+          none_out = after.shows.table.removal ∙ after.removal ∙ was.none_out;
+          few = subst (λ (o : List OpenObject). length o ≤ 16) (sym now)
+              (let long_now = marked_long n true objects in omega (arith, was.few, long_now));
         },
         omega (arith, before, later, unsealed, long, marked_long n true objects),
       )
@@ -224,9 +244,8 @@ module _ {R : Type 0} (state : R → ReceiptState) (reply : Reply R) (old new : 
       none_lowest state old.volume reply (lowest_ready plain.window.objects) after.tells none in
       let same : after.after.window ≡ plain.window = after.window ∙ ap (λ l. window_after_take l plain.window) lowest in
       let empty : old.volume.objects.uploads.window.objects ≡ [] =
-      none_is_ready old.volume.objects.uploads.window.objects
-      (subst (λ (w : WindowState). All (λ (object : OpenObject). object.is_checkpoint ≡ false) w.objects)
-      (sym shows.objects.window) shows.alone.none_open) idle.puts
+      none_is_ready 0 old.volume.objects.uploads.window.objects old.volume.objects.uploads.window.last
+      (subst (λ (w : WindowState). Ascends 0 w.objects w.last) (sym shows.objects.window) shows.valid.window.order) idle.puts
       (ap (λ (w : WindowState). lowest_ready w.objects) shows.objects.window ∙ lowest) in
       let now : new.volume.objects.uploads.window ≡ old.volume.objects.uploads.window =
       after.shows.objects.window ∙ same ∙ sym shows.objects.window in
@@ -238,6 +257,8 @@ module _ {R : Type 0} (state : R → ReceiptState) (reply : Reply R) (old new : 
         idle_shown new.volume after.after after.shows (record {
           puts = ap (λ (w : WindowState). any_started w.objects) same ∙ was.puts;
           plans = after.pins ∙ was.plans;
+          none_out = after.removal ∙ was.none_out;
+          few = subst (λ (w : WindowState). length w.objects ≤ 16) (sym same) was.few;
         }),
         omega (arith, before, later, unsealed, long),
       )
@@ -250,6 +271,7 @@ record IsAfterPut (window : WindowState → WindowState) (plain : PlainState) (n
   shows : Shows new after
   unsealed : unsealed_entries after ≡ unsealed_entries plain
   pins : after.pins ≡ plain.pins
+  removal : after.removal ≡ plain.removal
   window_is : after.window ≡ window plain.window
 
 done_put : (volume : VolumeState) (job : JobState) (receipt : ReceiptState) (put : Option ℕ) → IsTaken job volume
@@ -283,6 +305,7 @@ module _ {R : Type 0} (state : R → ReceiptState) (job : JobState) (receipt : R
         shows = subst (λ e. Shows new.volume (passing now (plain_after e ready))) asked s.shows;
         unsealed = refl;
         pins = refl;
+        removal = refl;
         window_is = ap (λ (b : Bool). if b then acknowledged n plain.window else plain.window) started_is;
       }
   after_done_by (inr n) = (let may = n.may in let bad : ⊥ = cc in absurd bad)
@@ -301,6 +324,8 @@ module _ {R : Type 0} (state : R → ReceiptState) (job : JobState) (receipt : R
       let alone : any_started (with_started n false objects) ≡ false =
       ap (λ (w : WindowState). any_started (with_started n false w.objects)) (sym shows.objects.window) ∙ taken.alone in
       let no_pins_ : plain.pins ≡ [] = plans_plain old.volume plain shows taken.plans in
+      let none_out : plain.removal ≡ None = sym shows.table.removal ∙ taken.none_out in
+      let few : length objects ≤ 16 = subst (λ (w : WindowState). length w.objects ≤ 16) shows.objects.window taken.few in
       let before = shown_work old.volume plain shows in
       let later = shown_work new.volume after.after after.shows in
       let unsealed = ap (λ (es : List Entry). length es) after.unsealed in
@@ -309,6 +334,8 @@ module _ {R : Type 0} (state : R → ReceiptState) (job : JobState) (receipt : R
         idle_shown new.volume after.after after.shows (record {
           puts = ap (λ (w : WindowState). any_started w.objects) after.window_is ∙ without_it n objects alone;
           plans = after.pins ∙ no_pins_;
+          none_out = after.removal ∙ none_out;
+          few = omega (arith, few, long, shorter);
         }),
         omega (arith, before, later, unsealed, long, shorter),
       )
@@ -333,6 +360,7 @@ module _ {R : Type 0} (state : R → ReceiptState) (job : JobState) (reply : Rep
         shows = subst (λ e. Shows new.volume (passing now (plain_after e ready))) asked s.shows;
         unsealed = refl;
         pins = refl;
+        removal = refl;
         window_is = ap (λ (b : Bool). if b then marked n false plain.window else plain.window) was_started_is;
       }
   after_failed_by (inr n) = (let may = n.may in let bad : ⊥ = cc in absurd bad)
@@ -352,6 +380,13 @@ module _ {R : Type 0} (state : R → ReceiptState) (job : JobState) (reply : Rep
       idle_shown new.volume after.after after.shows (record {
         puts = ap (λ (w : WindowState). any_started w.objects) after.window_is ∙ alone;
         plans = after.pins ∙ plans_plain old.volume plain shows taken.plans;
+        none_out = after.removal ∙ sym shows.table.removal ∙ taken.none_out;
+        few =
+            (let same = ap (λ (w : WindowState). length w.objects) after.window_is in
+            let long = marked_long n false plain.window.objects in
+            let few : length plain.window.objects ≤ 16 =
+            subst (λ (w : WindowState). length w.objects ≤ 16) shows.objects.window taken.few in
+            omega (arith, same, long, few));
       })
 
 -- ---- a seal
@@ -399,7 +434,9 @@ record IsAfterSeal {R : Type 0} (reply : Reply R) (plain : PlainState) (new : Vo
   after : PlainState
   shows : Shows new after
   pins : after.pins ≡ plain.pins
+  removal : after.removal ≡ plain.removal
   idle : any_started after.window.objects ≡ false
+  few : length after.window.objects ≤ 16
   less : (number : ℕ) → reply ≡ told.Sealed number
       → 2 * length (unsealed_entries after) + length after.window.objects < 2 * length (unsealed_entries plain)
   none : reply ≡ told.Nothing → (length (unsealed_entries plain) ≡ 0)
@@ -428,7 +465,9 @@ seal_by state volume reply plain new left now true false number valid has_is bus
       after = passing now (with_sealed (passing left plain));
       shows = shows;
       pins = refl;
+      removal = refl;
       idle = entered_none plain.window.objects opened (ap any_started none) refl;
+      few = omega (arith, long, empty);
       less = λ sealed is. omega (arith, few, long, empty);
       none = λ is. (let told_it = subst (λ r. Tells state volume r (replies.Sealed number)) is tells in let bad : ⊥ = cc in
           absurd bad);
@@ -442,7 +481,9 @@ seal_by state volume reply plain new left now false busy number valid has_is bus
       after = passing now (passing left plain);
       shows = shows;
       pins = refl;
+      removal = refl;
       idle = ap any_started none;
+      few = omega (arith, empty);
       less = λ sealed is. (let told_it = subst (λ r. Tells state volume r replies.Nothing) is tells in let bad : ⊥ = cc in
           absurd bad);
       none = λ is. (nothing, omega (arith, nothing, empty));
@@ -480,7 +521,9 @@ module _ {R : Type 0} (state : R → ReceiptState) (reply : Reply R) (old new : 
     after = plain;
     shows = n.shows;
     pins = refl;
+    removal = refl;
     idle = ap any_started none;
+    few = (let empty = ap (λ (o : List OpenObject). length o) none in omega (arith, empty));
     less = λ number is. absurd (sealed_lacks R number (subst (λ r. lacks_memory r ≡ true) is n.lacks));
     none = λ is. absurd (nothing_lacks R (subst (λ r. lacks_memory r ≡ true) is n.lacks));
   }
@@ -495,7 +538,12 @@ module _ {R : Type 0} (state : R → ReceiptState) (reply : Reply R) (old new : 
       let later = shown_work new.volume after.after after.shows in
       let no_objects = ap (λ (o : List OpenObject). length o) empty in
       let Helps : Result Bool OwnerError → Type 0 = λ r. IfOk r (λ has_sealed. HasHelped has_sealed old.volume new.volume) in (
-        idle_shown new.volume after.after after.shows (record { puts = after.idle; plans = after.pins ∙ was.plans }),
+        idle_shown new.volume after.after after.shows (record {
+          puts = after.idle;
+          plans = after.pins ∙ was.plans;
+          none_out = after.removal ∙ was.none_out;
+          few = after.few;
+        }),
         elim (seal_cases reply) [
           | inl e ↦
               let less = after.less e.0 e.1 in

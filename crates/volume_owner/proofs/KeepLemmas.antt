@@ -1,71 +1,56 @@
 -- A store that stands goes on standing over each act of a call.
-use Rattle.std.proofs.Common.{arith, ◌≡◌, ℕ, ◌+◌, ◌-◌, ◌<◌, ◌≤◌, nat_eq, inl, inr, true, false, cond, List, [], ◌++◌}
-use Rattle.std.proofs.Common.{take, refl, sym, ◌∙◌, ap, subst}
-use Rattle.std.specs.Prelude.{Option, Some}
+use Rattle.std.proofs.Common.{◌≡◌, ℕ, nat_eq, ◌⊎◌, inl, inr, Bool, true, false, cond, List, []}
+use Rattle.std.proofs.Common.{refl, sym, ◌∙◌, ap, subst}
+use Rattle.std.specs.Prelude.{Option, Some, None, IfSome}
 use Rattle.std.specs.List.{list_any}
 use Rattle.std.proofs.lemmas.Bool.{cases_eq, eq-eqb, ne_eqb}
-use Rattle.std.proofs.lemmas.List.{take-append-le}
-use Rattle.lsvd_base.specs.declared.entry.Entry.{Entry}
 use Rattle.lsvd_names.specs.Names.{numbered_name}
 use Rattle.lsvd_objstore.specs.Objects.{Objects, found}
 use Rattle.object_format.specs.declared.expected.Expected.{Expected}
 use Rattle.object_recovery.specs.Checkpoints.{expected_of}
-use Rattle.object_stream.specs.Stream.{end_at}
 use Rattle.object_uploads.specs.Changes.{index_of}
-use Rattle.plain_disk.specs.State.{PlainState, stream_in}
-use Rattle.plain_disk.specs.Valid.{IsPlainVolume}
-use Rattle.plain_disk.proofs.EndLemmas.{frontier_is_sealed}
-use Rattle.stopped_volume.specs.Opening.{HasOpening}
+use Rattle.plain_disk.specs.State.{PlainState, OpensBlank}
+use Rattle.plain_disk.specs.Removals.{has}
+use Rattle.plain_disk.specs.Found.{SealsCheckpoints}
 use Rattle.stopped_volume.specs.Store.{PutState, MayHoldPut}
-use Rattle.stopped_volume.specs.Store.PutState.{Acknowledged, Begun, NotBegun}
+use Rattle.stopped_volume.specs.Store.PutState.{Acknowledged, GivenOut, Begun, NotBegun}
 use Rattle.stopped_volume.specs.Super.{HasVolume}
-use Rattle.refine_store.specs.Puts.{IsObjectOf, state_of_put, AreBytesOfPut, HasLower}
+use Rattle.refine_store.specs.Puts.{IsObjectOf, state_of_put, AreBytesOfPut}
 use Rattle.refine_store.specs.Stored.{StoreStands}
-use Rattle.refine_store.proofs.KeepLemmas.{object_kept, count_within, size_within}
-use Rattle.upload_window.specs.Window.{WindowState, has_number, entered, marked, acknowledged}
+use Rattle.upload_window.specs.Window.{WindowState, has_number}
 use Rattle.vol_core.specs.Volume.{VolumeState}
 use Rattle.vol_core.specs.Shows.{Shows}
 use Rattle.vol_core.specs.Step.{IsOnItsWay, HasBytesOf, KeepsBytes}
-use Rattle.volume_owner.specs.History.{GoesOn}
-use Rattle.volume_owner.proofs.MarkLemmas.{open_within, begun_open, open_waits, failed_state, begun_others, begun_itself}
-use Rattle.volume_owner.proofs.MarkLemmas.{done_others}
-use Rattle.volume_owner.proofs.MarkLemmas.{done_itself, sealed_others, sealed_itself}
-use Rattle.volume_owner.proofs.StandLemmas.{IsOpened, opened_in, IsSealedIfBegun, PutStands, put_stands, none_past_last}
-use Rattle.volume_owner.proofs.StandLemmas.{stands_by_each, bytes_at_are}
+use Rattle.volume_owner.proofs.MarkLemmas.{begun_open, open_waits, closed_state}
+use Rattle.volume_owner.proofs.StandLemmas.{has_put, IsSealedIfBegun, PutStands, NumberStands, IsDescribed, is_described}
+use Rattle.volume_owner.proofs.StandLemmas.{number_stands, stands_by_each, bytes_at_are}
 
--- ---- an object that stays
+-- ---- what a step makes of the objects
 
--- a plain volume that goes on has the objects that it had
-pub object_goes_on : (volume : Expected) (added : List Entry) (plain after : PlainState) (number : ℕ) (bytes : List ℕ)
-    → IsPlainVolume plain
-    → GoesOn added plain after → IsObjectOf volume plain number bytes → IsObjectOf volume after number bytes
-object_goes_on volume added plain after number bytes valid goes is =
-    let first = number - plain.number in
-    let held = end_at (stream_in plain) number - plain.end in
-    let entries : after.entries ≡ plain.entries ++ added = ap (λ (p : PlainState). p.entries) goes.opens in
-    object_kept volume plain number bytes valid is after (ap (λ (p : PlainState). p.number) goes.opens)
-    (ap (λ (p : PlainState). p.end) goes.opens)
-    (ap (take first) goes.objects.1
-    ∙ take-append-le first plain.objects goes.objects.0 (count_within volume plain number bytes valid is))
-    (ap (take held) entries ∙ take-append-le held plain.entries added (size_within volume plain number bytes valid is))
+-- an object has come as far as before, and is there where it was
+pub record SameAt (plain after : PlainState) (n : ℕ) : Type 0 where
+  pub put : has_put after n ≡ has_put plain n
+  pub state : state_of_put after n ≡ state_of_put plain n
 
--- ---- what a step makes of the window
+-- What a step of a volume makes of one object of a plain volume: its put begins, whose bytes are the plain volume's object; or
+-- that is done, whose object the store has; or the object is sealed; or given out for removal; or it is removed, and the store
+-- does not have it.
+pub data IsChangeAt (uuid : List ℕ) (old : VolumeState) (objects : Objects) (plain after : PlainState) (n : ℕ) : Type 0 where
+  begins : (bytes : List ℕ) → has_put after n ≡ has_put plain n → state_of_put after n ≡ Begun
+      → list_any (has_number n) plain.window.objects ≡ true → HasBytesOf old n bytes
+      → IsObjectOf (expected_of uuid plain.geometry) plain n bytes → IsChangeAt uuid old objects plain after n
+  ends : (bytes : List ℕ) → has_put after n ≡ has_put plain n → state_of_put after n ≡ Acknowledged → state_of_put plain n ≡ Begun
+      → HasBytesOf old n bytes → found objects (numbered_name uuid n) ≡ Some bytes → IsChangeAt uuid old objects plain after n
+  seals : has_put plain n ≡ false → state_of_put after n ≡ NotBegun → IsChangeAt uuid old objects plain after n
+  gives_out : has_put after n ≡ has_put plain n → state_of_put after n ≡ GivenOut
+      → list_any (has_number n) plain.window.objects ≡ false → IsChangeAt uuid old objects plain after n
+  removes : has_put after n ≡ false → found objects (numbered_name uuid n) ≡ None → IsChangeAt uuid old objects plain after n
 
--- What a step of a volume makes of the window of a plain volume: nothing; or an object is sealed; or the put of an open one
--- begins, whose bytes are the plain volume's object; or a put that is out is done, whose object the store has; or it failed.
-pub data IsWindowStep (uuid : List ℕ) (old : VolumeState) (objects : Objects) (plain : PlainState) (window : WindowState) :
-    Type 0 where
-  stays : window ≡ plain.window → IsWindowStep uuid old objects plain window
-  seals : window ≡ entered (plain.window.last + 1) false plain.window → IsWindowStep uuid old objects plain window
-  begins : (n : ℕ) (bytes : List ℕ) → window ≡ marked n true plain.window
-      → list_any (has_number n) plain.window.objects ≡ true
-      → HasBytesOf old n bytes → IsObjectOf (expected_of uuid plain.geometry) plain n bytes
-      → IsWindowStep uuid old objects plain window
-  ends : (n : ℕ) (bytes : List ℕ) → window ≡ acknowledged n plain.window
-      → list_any (has_number n) plain.window.objects ≡ true → state_of_put plain.window n ≡ Begun
-      → HasBytesOf old n bytes
-      → found objects (numbered_name uuid n) ≡ Some bytes → IsWindowStep uuid old objects plain window
-  fails : (n : ℕ) → window ≡ marked n false plain.window → IsWindowStep uuid old objects plain window
+-- nothing, or one object changes
+pub data IsObjectStep (uuid : List ℕ) (old : VolumeState) (objects : Objects) (plain after : PlainState) : Type 0 where
+  stays : ((n : ℕ) → SameAt plain after n) → IsObjectStep uuid old objects plain after
+  changes : (n : ℕ) → ((k : ℕ) → (k ≡ n → ⊥) → SameAt plain after k) → IsChangeAt uuid old objects plain after n
+      → IsObjectStep uuid old objects plain after
 
 -- ---- the puts with one changed
 
@@ -82,33 +67,28 @@ changed_other n number put puts other = ap (λ b. cond b put (puts number)) (ne_
 
 -- ---- a step
 
-module _ (uuid : List ℕ) (epoch : ℕ) (added : List Entry) (plain after : PlainState) (old new : VolumeState) (objects : Objects)
-    (shows : Shows old plain) (shown : Shows new after) (goes : GoesOn added plain after) (bytes_stay : KeepsBytes old new)
-    (stands : StoreStands uuid epoch plain old.objects.uploads objects) where
-  geometry : after.geometry ≡ plain.geometry
-  geometry = ap (λ (p : PlainState). p.geometry) goes.opens
+-- what a step leaves of a plain volume as far as a store stands for it
+pub record StepLeaves (plain after : PlainState) : Type 0 where
+  pub geometry : after.geometry ≡ plain.geometry
+  pub blank : OpensBlank after
+  pub seals : SealsCheckpoints after
+  pub out : IfSome after.removal (λ number. has after.given_out number ≡ true)
+  pub objects : (volume : Expected) (n : ℕ) (bytes : List ℕ) → IsObjectOf volume plain n bytes → IsObjectOf volume after n bytes
 
-  number_is : after.number ≡ plain.number
-  number_is = ap (λ (p : PlainState). p.number) goes.opens
-
-  opened_below : plain.number ≤ plain.window.last
-  opened_below = omega (arith, shows.valid.opened, frontier_is_sealed plain shows.valid, shows.valid.last)
-
+module _ (uuid : List ℕ) (epoch : ℕ) (plain after : PlainState) (old new : VolumeState) (objects : Objects)
+    (shows : Shows old plain) (shown : Shows new after) (bytes_stay : KeepsBytes old new)
+    (stands : StoreStands uuid epoch plain old.objects.uploads objects) (leaves : StepLeaves plain after) where
   volume_is : expected_of uuid after.geometry ≡ expected_of uuid plain.geometry
-  volume_is = ap (expected_of uuid) geometry
+  volume_is = ap (expected_of uuid) leaves.geometry
 
-  opened : IsOpened uuid epoch after objects
-  opened =
-      let had = opened_in uuid epoch plain stands.puts objects stands.left in
+  described : IsDescribed uuid epoch after objects
+  described =
+      let had = is_described uuid epoch plain old.objects.uploads objects stands in
       record {
-        described = subst (λ g. HasVolume uuid g epoch objects) (sym geometry) had.described;
-        opened = ap (λ (p : PlainState). p.checkpoint.number) goes.opens ∙ had.opened ∙ sym number_is;
-        alone = shown.alone;
-        uuid_at = had.uuid_at;
-        own = had.own;
-        opens = subst (λ (p : PlainState). HasOpening (expected_of uuid p.geometry) had.uuid_at objects (stream_in p) p.opening)
-            (sym goes.opens) (record { is = had.opens.is; value = had.opens.value });
-        lower = subst (λ (p : PlainState). HasLower (expected_of uuid p.geometry) p.number objects) (sym goes.opens) had.lower;
+        described = subst (λ g. HasVolume uuid g epoch objects) (sym leaves.geometry) had.described;
+        blank = leaves.blank;
+        seals = leaves.seals;
+        out = leaves.out;
       }
 
   -- an object that is open before and after keeps its bytes
@@ -121,29 +101,31 @@ module _ (uuid : List ℕ) (epoch : ℕ) (added : List Entry) (plain after : Pla
   object_stays : (n : ℕ) (bytes : List ℕ) → IsObjectOf (expected_of uuid plain.geometry) plain n bytes
       → IsObjectOf (expected_of uuid after.geometry) after n bytes
   object_stays n bytes is =
-      subst (λ v. IsObjectOf v after n bytes) (sym volume_is)
-      (object_goes_on (expected_of uuid plain.geometry) added plain after n bytes shows.valid goes is)
+      subst (λ v. IsObjectOf v after n bytes) (sym volume_is) (leaves.objects (expected_of uuid plain.geometry) n bytes is)
 
   known_stays : (state : PutState) (n : ℕ) (bytes : List ℕ)
       → AreBytesOfPut state (expected_of uuid plain.geometry) plain n bytes
       → AreBytesOfPut state (expected_of uuid after.geometry) after n bytes
   known_stays Acknowledged n bytes known = object_stays n bytes known
+  known_stays GivenOut n bytes known = object_stays n bytes known
   known_stays Begun n bytes known = object_stays n bytes known
   known_stays NotBegun n bytes known = tt
 
-  sealed_stays : (state : PutState) (n : ℕ) (bytes : List ℕ) → state_of_put plain.window n ≡ state
-      → state_of_put after.window n ≡ state → IsSealedIfBegun state old.objects.uploads n bytes
+  sealed_stays : (state : PutState) (n : ℕ) (bytes : List ℕ) → state_of_put plain n ≡ state
+      → state_of_put after n ≡ state → IsSealedIfBegun state old.objects.uploads n bytes
       → IsSealedIfBegun state new.objects.uploads n bytes
   sealed_stays Acknowledged n bytes was now sealed = tt
+  sealed_stays GivenOut n bytes was now sealed = tt
   sealed_stays Begun n bytes was now sealed =
-      bytes_stay n bytes (old_open n (begun_open plain.window n was)) sealed (new_open n (begun_open after.window n now))
+      bytes_stay n bytes (old_open n (begun_open plain.window plain.given_out n was)) sealed
+      (new_open n (begun_open after.window after.given_out n now))
   sealed_stays NotBegun n bytes was now sealed = tt
 
   -- a put that has come as far as before
-  put_stays : (n : ℕ) (put : Option (PutState × List ℕ)) → state_of_put after.window n ≡ state_of_put plain.window n
+  put_stays : (n : ℕ) (put : Option (PutState × List ℕ)) → state_of_put after n ≡ state_of_put plain n
       → PutStands uuid plain old.objects.uploads objects n put → PutStands uuid after new.objects.uploads objects n put
   put_stays n put same had =
-      let was : PutState = state_of_put plain.window n in
+      let was : PutState = state_of_put plain n in
       let back = sym same in
       let v : Expected = expected_of uuid after.geometry in
       record {
@@ -155,72 +137,63 @@ module _ (uuid : List ℕ) (epoch : ℕ) (added : List Entry) (plain after : Pla
             (sealed_stays was n had.bytes refl same had.sealed);
       }
 
-  -- all puts have, and there are no more
-  all_stay : after.window.last ≡ plain.window.last
-      → ((n : ℕ) → plain.number < n → n ≤ plain.window.last → state_of_put after.window n ≡ state_of_put plain.window n)
-      → StoreStands uuid epoch after new.objects.uploads objects
-  all_stay last same =
-      stands_by_each uuid epoch after new.objects.uploads objects stands.puts opened
-      (λ n past within.
-      let past_plain : plain.number < n = omega (arith, past, number_is) in
-      let within_plain : n ≤ plain.window.last = omega (arith, within, last) in
-      put_stays n (stands.puts n) (same n past_plain within_plain)
-      (put_stands uuid epoch plain old.objects.uploads objects stands n past_plain within_plain))
-      (λ n over. none_past_last uuid epoch plain old.objects.uploads objects stands n
-      (omega (arith, over, last, opened_below)) (omega (arith, over, last)))
+  number_stays : (n : ℕ) (put : Option (PutState × List ℕ)) → SameAt plain after n
+      → NumberStands uuid plain old.objects.uploads objects n put → NumberStands uuid after new.objects.uploads objects n put
+  number_stays n put same had = record {
+    there = λ is. put_stays n put same.state (had.there (sym same.put ∙ is));
+    absent = λ is. had.absent (sym same.put ∙ is);
+  }
 
-  -- all but one have, which is known
-  all_but_one : (n : ℕ) (put : Option (PutState × List ℕ)) → after.window.last ≡ plain.window.last → n ≤ plain.window.last
-      → ((k : ℕ) → (k ≡ n → ⊥) → state_of_put after.window k ≡ state_of_put plain.window k)
-      → PutStands uuid after new.objects.uploads objects n put
+  -- the puts of all numbers but one have come as far as before, and that one is known
+  all_but_one : (n : ℕ) (put : Option (PutState × List ℕ)) → ((k : ℕ) → (k ≡ n → ⊥) → SameAt plain after k)
+      → NumberStands uuid after new.objects.uploads objects n put
       → StoreStands uuid epoch after new.objects.uploads objects
-  all_but_one n put last within_n same here =
-      stands_by_each uuid epoch after new.objects.uploads objects (changed n put stands.puts) opened
-      (λ k past within.
-      let past_plain : plain.number < k = omega (arith, past, number_is) in
-      let within_plain : k ≤ plain.window.last = omega (arith, within, last) in
-      elim (cases_eq k n) [
+  all_but_one n put same here =
+      stands_by_each uuid epoch after new.objects.uploads objects (changed n put stands.puts) described
+      (λ k. elim (cases_eq k n) [
         | inl is ↦
-            subst (λ m. PutStands uuid after new.objects.uploads objects m (changed n put stands.puts m)) (sym is)
-            (subst (λ p. PutStands uuid after new.objects.uploads objects n p) (sym (changed_there n put stands.puts)) here)
+            subst (λ m. NumberStands uuid after new.objects.uploads objects m (changed n put stands.puts m)) (sym is)
+            (subst (λ p. NumberStands uuid after new.objects.uploads objects n p) (sym (changed_there n put stands.puts)) here)
         | inr other ↦
-            subst (λ p. PutStands uuid after new.objects.uploads objects k p) (sym (changed_other n k put stands.puts other))
-            (put_stays k (stands.puts k) (same k other)
-            (put_stands uuid epoch plain old.objects.uploads objects stands k past_plain within_plain))
+            subst (λ p. NumberStands uuid after new.objects.uploads objects k p) (sym (changed_other n k put stands.puts other))
+            (number_stays k (stands.puts k) (same k other)
+            (number_stands uuid epoch plain old.objects.uploads objects stands k))
       ])
-      (λ k over.
-      let other : k ≡ n → ⊥ = λ is. omega (arith, is, over, last, within_n) in
-      let none = none_past_last uuid epoch plain old.objects.uploads objects stands k
-      (omega (arith, over, last, opened_below)) (omega (arith, over, last)) in
-      (changed_other n k put stands.puts other ∙ none.0, none.1))
 
-  -- an object that is open is past the first, and not past the last
-  within_window : (n : ℕ) → list_any (has_number n) plain.window.objects ≡ true → (plain.number < n) × (n ≤ plain.window.last)
-  within_window n open_ =
-      let within = open_within n 0 plain.window.objects plain.window.last shows.valid.window.order open_ in
-      (omega (arith, within.0, shows.valid.opened), within.1)
+  -- ---- the changes of one
 
-  -- ---- a put begins
+  module _ (n : ℕ) where
+    had : NumberStands uuid plain old.objects.uploads objects n (stands.puts n)
+    had = number_stands uuid epoch plain old.objects.uploads objects stands n
 
-  module _ (n : ℕ) (bytes : List ℕ) (out : HasBytesOf old n bytes) where
-    -- what the store holds of it
-    may_hold : (state : PutState) (known : List ℕ) (held : Option (List ℕ)) → (state ≡ Acknowledged → ⊥)
+    absent_after : (put : Option (PutState × List ℕ)) → has_put after n ≡ has_put plain n → has_put after n ≡ false
+        → stands.puts n ≡ None
+    absent_after put same is = (had.absent (sym same ∙ is)).0
+
+    -- where it is not there, it has no put
+    abbrev put_if : Bool → Option (PutState × List ℕ) → Option (PutState × List ℕ)
+    put_if there put = cond there put None
+
+    -- what the store holds of one that is open
+    may_hold : (bytes : List ℕ) → HasBytesOf old n bytes → (state : PutState) (known : List ℕ) (held : Option (List ℕ))
+        → (state ≡ Begun) ⊎ (state ≡ NotBegun)
         → IsSealedIfBegun state old.objects.uploads n known → MayHoldPut state known held → MayHoldPut Begun bytes held
-    may_hold Acknowledged known held waits sealed may = absurd (waits refl)
-    may_hold Begun known held waits sealed (inl none) = inl none
-    may_hold Begun known held waits sealed (inr there) =
+    may_hold bytes out Acknowledged known held (inl is) sealed may = let bad : ⊥ = cc in absurd bad
+    may_hold bytes out Acknowledged known held (inr is) sealed may = let bad : ⊥ = cc in absurd bad
+    may_hold bytes out GivenOut known held (inl is) sealed may = let bad : ⊥ = cc in absurd bad
+    may_hold bytes out GivenOut known held (inr is) sealed may = let bad : ⊥ = cc in absurd bad
+    may_hold bytes out Begun known held is sealed (inl none) = inl none
+    may_hold bytes out Begun known held is sealed (inr there) =
         inr (there ∙ ap Some (bytes_at_are (index_of old.objects.uploads n) old.objects.uploads.queue.sealed known bytes sealed
         out))
-    may_hold NotBegun known held waits sealed none = inl none
+    may_hold bytes out NotBegun known held is sealed none = inl none
 
-    begun_put : after.window ≡ marked n true plain.window → list_any (has_number n) plain.window.objects ≡ true
-        → IsObjectOf (expected_of uuid plain.geometry) plain n bytes
+    -- a put that has come so far, by the put before it
+    begun_put : (bytes : List ℕ) → state_of_put after n ≡ Begun → list_any (has_number n) plain.window.objects ≡ true
+        → HasBytesOf old n bytes → IsObjectOf (expected_of uuid plain.geometry) plain n bytes
+        → PutStands uuid plain old.objects.uploads objects n (stands.puts n)
         → PutStands uuid after new.objects.uploads objects n (Some (Begun, bytes))
-    begun_put is open_ object =
-        let within = within_window n open_ in
-        let had = put_stands uuid epoch plain old.objects.uploads objects stands n within.0 within.1 in
-        let now : state_of_put after.window n ≡ Begun =
-        ap (λ (w : WindowState). state_of_put w n) is ∙ begun_itself plain.window n open_ in
+    begun_put bytes now open_ out object was =
         let back = sym now in
         let v : Expected = expected_of uuid after.geometry in
         record {
@@ -228,29 +201,24 @@ module _ (uuid : List ℕ) (epoch : ℕ) (added : List Entry) (plain after : Pla
           put_is = ap (λ s. Some (s, bytes)) back;
           known = subst (λ s. AreBytesOfPut s v after n bytes) back (object_stays n bytes object);
           held = subst (λ s. MayHoldPut s bytes (found objects (numbered_name uuid n))) back
-              (may_hold (state_of_put plain.window n) had.bytes (found objects (numbered_name uuid n))
-              (open_waits plain.window n open_) had.sealed had.held);
+              (may_hold bytes out (state_of_put plain n) was.bytes (found objects (numbered_name uuid n))
+              (open_waits plain.window plain.given_out n open_) was.sealed was.held);
           sealed = subst (λ s. IsSealedIfBegun s new.objects.uploads n bytes) back
-              (bytes_stay n bytes (old_open n open_) out (new_open n (begun_open after.window n now)));
+              (bytes_stay n bytes (old_open n open_) out (new_open n (begun_open after.window after.given_out n now)));
         }
 
-    -- ---- a put is done
-
-    done_put : after.window ≡ acknowledged n plain.window → list_any (has_number n) plain.window.objects ≡ true
-        → state_of_put plain.window n ≡ Begun → found objects (numbered_name uuid n) ≡ Some bytes
+    done_put : (bytes : List ℕ) → state_of_put after n ≡ Acknowledged → state_of_put plain n ≡ Begun
+        → HasBytesOf old n bytes → found objects (numbered_name uuid n) ≡ Some bytes
+        → PutStands uuid plain old.objects.uploads objects n (stands.puts n)
         → PutStands uuid after new.objects.uploads objects n (Some (Acknowledged, bytes))
-    done_put is open_ was there =
-        let within = within_window n open_ in
-        let had = put_stands uuid epoch plain old.objects.uploads objects stands n within.0 within.1 in
-        let now : state_of_put after.window n ≡ Acknowledged =
-        ap (λ (w : WindowState). state_of_put w n) is ∙ done_itself plain.window n shows.valid.window.order in
+    done_put bytes now begun out there was =
         let back = sym now in
         let v : Expected = expected_of uuid after.geometry in
-        let sealed = subst (λ s. IsSealedIfBegun s old.objects.uploads n had.bytes) was had.sealed in
-        let same : had.bytes ≡ bytes =
-        bytes_at_are (index_of old.objects.uploads n) old.objects.uploads.queue.sealed had.bytes bytes sealed out in
-        let object : IsObjectOf (expected_of uuid plain.geometry) plain n had.bytes =
-        subst (λ s. AreBytesOfPut s (expected_of uuid plain.geometry) plain n had.bytes) was had.known in
+        let sealed = subst (λ s. IsSealedIfBegun s old.objects.uploads n was.bytes) begun was.sealed in
+        let same : was.bytes ≡ bytes =
+        bytes_at_are (index_of old.objects.uploads n) old.objects.uploads.queue.sealed was.bytes bytes sealed out in
+        let object : IsObjectOf (expected_of uuid plain.geometry) plain n was.bytes =
+        subst (λ s. AreBytesOfPut s (expected_of uuid plain.geometry) plain n was.bytes) begun was.known in
         record {
           bytes = bytes;
           put_is = ap (λ s. Some (s, bytes)) back;
@@ -260,67 +228,127 @@ module _ (uuid : List ℕ) (epoch : ℕ) (added : List Entry) (plain after : Pla
           sealed = subst (λ s. IsSealedIfBegun s new.objects.uploads n bytes) back tt;
         }
 
-  -- ---- an object is sealed
+    sealed_put : state_of_put after n ≡ NotBegun → found objects (numbered_name uuid n) ≡ None
+        → PutStands uuid after new.objects.uploads objects n (Some (NotBegun, []))
+    sealed_put now none =
+        let back = sym now in
+        let v : Expected = expected_of uuid after.geometry in
+        record {
+          bytes = [];
+          put_is = ap (λ s. Some (s, [])) back;
+          known = subst (λ s. AreBytesOfPut s v after n []) back tt;
+          held = subst (λ s. MayHoldPut s [] (found objects (numbered_name uuid n))) back none;
+          sealed = subst (λ s. IsSealedIfBegun s new.objects.uploads n []) back tt;
+        }
 
-  sealed_put : after.window ≡ entered (plain.window.last + 1) false plain.window
-      → PutStands uuid after new.objects.uploads objects (plain.window.last + 1) (Some (NotBegun, []))
-  sealed_put is =
-      let n : ℕ = plain.window.last + 1 in
-      let now : state_of_put after.window n ≡ NotBegun =
-      ap (λ (w : WindowState). state_of_put w n) is ∙ sealed_itself plain.window shows.valid.window.order in
-      let back = sym now in
-      let v : Expected = expected_of uuid after.geometry in
-      let none = none_past_last uuid epoch plain old.objects.uploads objects stands n (omega (arith, opened_below))
-      (omega arith) in
-      record {
-        bytes = [];
-        put_is = ap (λ s. Some (s, [])) back;
-        known = subst (λ s. AreBytesOfPut s v after n []) back tt;
-        held = subst (λ s. MayHoldPut s [] (found objects (numbered_name uuid n))) back none.1;
-        sealed = subst (λ s. IsSealedIfBegun s new.objects.uploads n []) back tt;
-      }
+    -- one that was acknowledged may be gone, once it was given out
+    given_put : (state : PutState) (bytes : List ℕ) → state_of_put after n ≡ GivenOut
+        → ((state ≡ Acknowledged) ⊎ (state ≡ GivenOut))
+        → AreBytesOfPut state (expected_of uuid plain.geometry) plain n bytes
+        → MayHoldPut state bytes (found objects (numbered_name uuid n))
+        → PutStands uuid after new.objects.uploads objects n (Some (GivenOut, bytes))
+    given_put state bytes now is known held =
+        let back = sym now in
+        let v : Expected = expected_of uuid after.geometry in
+        record {
+          bytes = bytes;
+          put_is = ap (λ s. Some (s, bytes)) back;
+          known = subst (λ s. AreBytesOfPut s v after n bytes) back (object_stays n bytes (object_of state is known));
+          held = subst (λ s. MayHoldPut s bytes (found objects (numbered_name uuid n))) back
+              (may_be_gone state (found objects (numbered_name uuid n)) is held);
+          sealed = subst (λ s. IsSealedIfBegun s new.objects.uploads n bytes) back tt;
+        }
+      where
+        object_of : (state : PutState) → ((state ≡ Acknowledged) ⊎ (state ≡ GivenOut))
+            → AreBytesOfPut state (expected_of uuid plain.geometry) plain n bytes
+            → IsObjectOf (expected_of uuid plain.geometry) plain n bytes
+        object_of Acknowledged is known = known
+        object_of GivenOut is known = known
+        object_of Begun (inl is) known = let bad : ⊥ = cc in absurd bad
+        object_of Begun (inr is) known = let bad : ⊥ = cc in absurd bad
+        object_of NotBegun (inl is) known = let bad : ⊥ = cc in absurd bad
+        object_of NotBegun (inr is) known = let bad : ⊥ = cc in absurd bad
 
-  seal_stands : after.window ≡ entered (plain.window.last + 1) false plain.window
-      → StoreStands uuid epoch after new.objects.uploads objects
-  seal_stands is =
-      let n : ℕ = plain.window.last + 1 in
-      let put : Option (PutState × List ℕ) = Some (NotBegun, []) in
-      let last : after.window.last ≡ n = ap (λ (w : WindowState). w.last) is in
-      stands_by_each uuid epoch after new.objects.uploads objects (changed n put stands.puts) opened
-      (λ k past within.
-      let past_plain : plain.number < k = omega (arith, past, number_is) in
-      elim (cases_eq k n) [
-        | inl same ↦
-            subst (λ m. PutStands uuid after new.objects.uploads objects m (changed n put stands.puts m)) (sym same)
-            (subst (λ p. PutStands uuid after new.objects.uploads objects n p) (sym (changed_there n put stands.puts))
-            (sealed_put is))
-        | inr other ↦
-            let within_plain : k ≤ plain.window.last = omega (arith, within, last, other) in
-            subst (λ p. PutStands uuid after new.objects.uploads objects k p) (sym (changed_other n k put stands.puts other))
-            (put_stays k (stands.puts k)
-            (ap (λ (w : WindowState). state_of_put w k) is ∙ sealed_others plain.window k within_plain)
-            (put_stands uuid epoch plain old.objects.uploads objects stands k past_plain within_plain))
-      ])
-      (λ k over.
-      let other : k ≡ n → ⊥ = λ same. omega (arith, same, over, last) in
-      let none = none_past_last uuid epoch plain old.objects.uploads objects stands k
-      (omega (arith, over, last, opened_below)) (omega (arith, over, last)) in
-      (changed_other n k put stands.puts other ∙ none.0, none.1))
+        may_be_gone : (state : PutState) (there : Option (List ℕ)) → ((state ≡ Acknowledged) ⊎ (state ≡ GivenOut))
+            → MayHoldPut state bytes there → MayHoldPut GivenOut bytes there
+        may_be_gone Acknowledged there is held = inr held
+        may_be_gone GivenOut there is held = held
+        may_be_gone Begun there (inl is) held = let bad : ⊥ = cc in absurd bad
+        may_be_gone Begun there (inr is) held = let bad : ⊥ = cc in absurd bad
+        may_be_gone NotBegun there (inl is) held = let bad : ⊥ = cc in absurd bad
+        may_be_gone NotBegun there (inr is) held = let bad : ⊥ = cc in absurd bad
+
+    -- by whether it is there
+    by_put : (put : Option (PutState × List ℕ)) → has_put after n ≡ has_put plain n
+        → (PutStands uuid plain old.objects.uploads objects n (stands.puts n)
+        → PutStands uuid after new.objects.uploads objects n put) → (b : Bool) → has_put plain n ≡ b
+        → NumberStands uuid after new.objects.uploads objects n (put_if b put)
+    by_put put same follows true is = record {
+      there = λ now. follows (had.there is);
+      absent = λ none. (let bad : ⊥ = (let e = sym none ∙ same ∙ is in cc) in absurd bad);
+    }
+    by_put put same follows false is = record {
+      there = λ now. (let bad : ⊥ = (let e = sym now ∙ same ∙ is in cc) in absurd bad);
+      absent = λ none. (refl, (had.absent is).1);
+    }
+
+    closed_is : (b : Bool) (state : PutState) → state ≡ cond b GivenOut Acknowledged → (state ≡ Acknowledged) ⊎ (state ≡ GivenOut)
+    closed_is true state is = inr is
+    closed_is false state is = inl is
+
+    change_stands : ((k : ℕ) → (k ≡ n → ⊥) → SameAt plain after k) → IsChangeAt uuid old objects plain after n
+        → StoreStands uuid epoch after new.objects.uploads objects
+    change_stands same (begins bytes put now open_ out object) =
+        all_but_one n (put_if (has_put plain n) (Some (Begun, bytes))) same
+        (by_put (Some (Begun, bytes)) put (begun_put bytes now open_ out object) (has_put plain n) refl)
+    change_stands same (ends bytes put now begun out there) =
+        all_but_one n (put_if (has_put plain n) (Some (Acknowledged, bytes))) same
+        (by_put (Some (Acknowledged, bytes)) put (done_put bytes now begun out there) (has_put plain n) refl)
+    change_stands same (seals none now) =
+        let put : Option (PutState × List ℕ) = put_if (has_put after n) (Some (NotBegun, [])) in
+        all_but_one n put same (by_after (has_put after n) refl)
+      where
+        by_after : (b : Bool) → has_put after n ≡ b
+            → NumberStands uuid after new.objects.uploads objects n (put_if b (Some (NotBegun, [])))
+        by_after true is = record {
+          there = λ here. sealed_put now (had.absent none).1;
+          absent = λ gone. (let bad : ⊥ = (let e = sym gone ∙ is in cc) in absurd bad);
+        }
+        by_after false is = record {
+          there = λ here. (let bad : ⊥ = (let e = sym here ∙ is in cc) in absurd bad);
+          absent = λ gone. (refl, (had.absent none).1);
+        }
+    change_stands same (gives_out put now closed) =
+        all_but_one n (given_if (has_put plain n) refl) same (given_by (has_put plain n) refl)
+      where
+        given_if : (b : Bool) → has_put plain n ≡ b → Option (PutState × List ℕ)
+        given_if true is = Some (GivenOut, (had.there is).bytes)
+        given_if false is = None
+
+        given_by : (b : Bool) (is : has_put plain n ≡ b)
+            → NumberStands uuid after new.objects.uploads objects n (given_if b is)
+        given_by true is = record {
+          there = λ here.
+              (let was = had.there is in
+              given_put (state_of_put plain n) was.bytes now
+              (closed_is (has plain.given_out n) (state_of_put plain n) (closed_state plain.window plain.given_out n closed))
+              was.known was.held);
+          absent = λ none. (let bad : ⊥ = (let e = sym none ∙ put ∙ is in cc) in absurd bad);
+        }
+        given_by false is = record {
+          there = λ here. (let bad : ⊥ = (let e = sym here ∙ put ∙ is in cc) in absurd bad);
+          absent = λ none. (refl, (had.absent is).1);
+        }
+    change_stands same (removes gone none) =
+        all_but_one n None same (record {
+          there = λ here. (let bad : ⊥ = (let e = sym here ∙ gone in cc) in absurd bad);
+          absent = λ is. (refl, none);
+        })
 
   -- ---- any of them
 
-  pub step_stands : IsWindowStep uuid old objects plain after.window → StoreStands uuid epoch after new.objects.uploads objects
-  step_stands (stays is) =
-      all_stay (ap (λ (w : WindowState). w.last) is) (λ n past within. ap (λ (w : WindowState). state_of_put w n) is)
-  step_stands (seals is) = seal_stands is
-  step_stands (begins n bytes is open_ out object) =
-      all_but_one n (Some (Begun, bytes)) (ap (λ (w : WindowState). w.last) is) (within_window n open_).1
-      (λ k other. ap (λ (w : WindowState). state_of_put w k) is ∙ begun_others plain.window k n other)
-      (begun_put n bytes out is open_ object)
-  step_stands (ends n bytes is open_ was out there) =
-      all_but_one n (Some (Acknowledged, bytes)) (ap (λ (w : WindowState). w.last) is) (within_window n open_).1
-      (λ k other. ap (λ (w : WindowState). state_of_put w k) is ∙ done_others plain.window k n other)
-      (done_put n bytes out is open_ was there)
-  step_stands (fails n is) =
-      all_stay (ap (λ (w : WindowState). w.last) is)
-      (λ k past within. ap (λ (w : WindowState). state_of_put w k) is ∙ failed_state plain.window k n)
+  pub step_stands : IsObjectStep uuid old objects plain after → StoreStands uuid epoch after new.objects.uploads objects
+  step_stands (stays same) =
+      stands_by_each uuid epoch after new.objects.uploads objects stands.puts described
+      (λ n. number_stays n (stands.puts n) (same n) (number_stands uuid epoch plain old.objects.uploads objects stands n))
+  step_stands (changes n same change) = change_stands n same change

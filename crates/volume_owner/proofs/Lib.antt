@@ -4,6 +4,7 @@ pub mod WindowLemmas
 pub mod TellsLemmas
 pub mod ReplyLemmas
 pub mod StepLemmas
+pub mod EventLeaves
 pub mod EnterLemmas
 pub mod HelpLemmas
 pub mod ActLemmas
@@ -14,5 +15,6 @@ pub mod ReadLemmas
 pub mod MarkLemmas
 pub mod StandLemmas
 pub mod KeepLemmas
+pub mod ChangeLemmas
 pub mod StoreLemmas
 pub mod New

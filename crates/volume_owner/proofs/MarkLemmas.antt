@@ -1,13 +1,13 @@
 -- How far the puts of a window's objects have come, and what a mark, an object that is done and one that is sealed leave of it.
 use Rattle.std.proofs.Common.{arith, ◌≡◌, ℕ, ◌+◌, ◌<◌, ◌≤◌, nat_eq, Bool, true, false, cond, ◌&&◌, ◌||◌, List, [], ◌∷◌, ◌++◌}
-use Rattle.std.proofs.Common.{refl, sym, ◌∙◌, ap, inl, inr}
+use Rattle.std.proofs.Common.{refl, sym, ◌∙◌, ap, ◌⊎◌, inl, inr}
 use Rattle.std.specs.Prelude.{if◌then◌else◌}
 use Rattle.std.specs.List.{list_any}
 use Rattle.std.proofs.Math.Bool.{or-true, or-false, and-false}
 use Rattle.std.proofs.lemmas.Bool.{cases_eq, eq-eqb, ne_eqb}
 use Rattle.stopped_volume.specs.Store.{PutState}
-use Rattle.stopped_volume.specs.Store.PutState.{Acknowledged, Begun, NotBegun}
-use Rattle.refine_store.specs.Puts.{state_of_put}
+use Rattle.stopped_volume.specs.Store.PutState.{Acknowledged, GivenOut, Begun, NotBegun}
+use Rattle.plain_disk.specs.Removals.{has}
 use Rattle.upload_window.specs.declared.object.OpenObject.{OpenObject}
 use Rattle.upload_window.specs.Window.{WindowState, Ascends, has_number, below_lowest, is_started, was_started, was_started_with}
 use Rattle.upload_window.specs.Window.{with_started, without, entered, marked, acknowledged}
@@ -49,7 +49,7 @@ open_within n low (object ∷ objects) last ascends is =
     ]
 
 -- none past the last is open
-none_past : (n low : ℕ) (objects : List OpenObject) (last : ℕ) → Ascends low objects last → last < n
+pub none_past : (n low : ℕ) (objects : List OpenObject) (last : ℕ) → Ascends low objects last → last < n
     → list_any (has_number n) objects ≡ false
 none_past n low objects last ascends past =
     by_test (list_any (has_number n) objects) refl
@@ -182,88 +182,113 @@ any_last test (first ∷ objects) object yes_ =
 
 -- ---- how far a put has come
 
-abbrev state_by : (was is_open : Bool) → PutState
-state_by was is_open = if was then Begun else (if is_open then NotBegun else Acknowledged)
+abbrev pub state_by : (was is_open given : Bool) → PutState
+state_by was is_open given = if was then Begun else (if is_open then NotBegun else (if given then GivenOut else Acknowledged))
 
-state_same : (was was_now is_open open_now : Bool) → was_now ≡ was → open_now ≡ is_open
-    → state_by was_now open_now ≡ state_by was is_open
-state_same was was_now is_open open_now same_was same_open =
-    ap (λ b. state_by b open_now) same_was ∙ ap (λ b. state_by was b) same_open
+-- how far the object of a number has come, by the window and by what was given out for removal
+abbrev pub put_state : WindowState → (given_out : List ℕ) → ℕ → PutState
+put_state window given_out n =
+    state_by (was_started n window.objects) (list_any (has_number n) window.objects) (has given_out n)
+
+state_same : (was was_now is_open open_now given : Bool) → was_now ≡ was → open_now ≡ is_open
+    → state_by was_now open_now given ≡ state_by was is_open given
+state_same was was_now is_open open_now given same_was same_open =
+    ap (λ b. state_by b open_now given) same_was ∙ ap (λ b. state_by was b given) same_open
 
 -- one that was begun is open
-begun_by : (was is_open : Bool) → state_by was is_open ≡ Begun → was ≡ true
-begun_by true is_open is = refl
-begun_by false true is = let bad : ⊥ = cc in absurd bad
-begun_by false false is = let bad : ⊥ = cc in absurd bad
+begun_by : (was is_open given : Bool) → state_by was is_open given ≡ Begun → was ≡ true
+begun_by true is_open given is = refl
+begun_by false true given is = let bad : ⊥ = cc in absurd bad
+begun_by false false true is = let bad : ⊥ = cc in absurd bad
+begun_by false false false is = let bad : ⊥ = cc in absurd bad
 
-pub begun_open : (window : WindowState) (n : ℕ) → state_of_put window n ≡ Begun → list_any (has_number n) window.objects ≡ true
-begun_open window n is =
-    was_open n window.objects (begun_by (was_started n window.objects) (list_any (has_number n) window.objects) is)
+pub begun_open : (window : WindowState) (given_out : List ℕ) (n : ℕ) → put_state window given_out n ≡ Begun
+    → list_any (has_number n) window.objects ≡ true
+begun_open window given_out n is =
+    was_open n window.objects
+    (begun_by (was_started n window.objects) (list_any (has_number n) window.objects) (has given_out n) is)
 
--- one that is open is not acknowledged
-open_by : (was is_open : Bool) → is_open ≡ true → state_by was is_open ≡ Acknowledged → ⊥
-open_by true is_open yes_ is = cc
-open_by false true yes_ is = cc
-open_by false false yes_ is = cc
+-- one that is open is begun or is not
+open_by : (was is_open given : Bool) → is_open ≡ true
+    → (state_by was is_open given ≡ Begun) ⊎ (state_by was is_open given ≡ NotBegun)
+open_by true is_open given yes_ = inl refl
+open_by false true given yes_ = inr refl
+open_by false false given yes_ = let bad : ⊥ = cc in absurd bad
 
-pub open_waits : (window : WindowState) (n : ℕ) → list_any (has_number n) window.objects ≡ true
-    → state_of_put window n ≡ Acknowledged → ⊥
-open_waits window n open_ is = open_by (was_started n window.objects) (list_any (has_number n) window.objects) open_ is
+pub open_waits : (window : WindowState) (given_out : List ℕ) (n : ℕ) → list_any (has_number n) window.objects ≡ true
+    → (put_state window given_out n ≡ Begun) ⊎ (put_state window given_out n ≡ NotBegun)
+open_waits window given_out n open_ =
+    open_by (was_started n window.objects) (list_any (has_number n) window.objects) (has given_out n) open_
 
-pub was_begun_is : (window : WindowState) (n : ℕ) → was_started n window.objects ≡ true → state_of_put window n ≡ Begun
-was_begun_is window n was = ap (λ b. state_by b (list_any (has_number n) window.objects)) was
+pub was_begun_is : (window : WindowState) (given_out : List ℕ) (n : ℕ) → was_started n window.objects ≡ true
+    → put_state window given_out n ≡ Begun
+was_begun_is window given_out n was =
+    ap (λ b. state_by b (list_any (has_number n) window.objects) (has given_out n)) was
 
 -- a put fails: each has come as far as before
-pub failed_state : (window : WindowState) (k n : ℕ) → state_of_put (marked n false window) k ≡ state_of_put window k
-failed_state window k n =
+pub failed_state : (window : WindowState) (given_out : List ℕ) (k n : ℕ)
+    → put_state (marked n false window) given_out k ≡ put_state window given_out k
+failed_state window given_out k n =
     state_same (was_started k window.objects) (was_started k (with_started n false window.objects))
-    (list_any (has_number k) window.objects) (list_any (has_number k) (with_started n false window.objects))
+    (list_any (has_number k) window.objects) (list_any (has_number k) (with_started n false window.objects)) (has given_out k)
     (was_still k n window.objects) (marked_numbers k n false window.objects)
 
 -- a put begins: the others have, and it has begun
-pub begun_others : (window : WindowState) (k n : ℕ) → (k ≡ n → ⊥) → state_of_put (marked n true window) k ≡ state_of_put window k
-begun_others window k n other =
+pub begun_others : (window : WindowState) (given_out : List ℕ) (k n : ℕ) → (k ≡ n → ⊥)
+    → put_state (marked n true window) given_out k ≡ put_state window given_out k
+begun_others window given_out k n other =
     state_same (was_started k window.objects) (was_started k (with_started n true window.objects))
-    (list_any (has_number k) window.objects) (list_any (has_number k) (with_started n true window.objects))
+    (list_any (has_number k) window.objects) (list_any (has_number k) (with_started n true window.objects)) (has given_out k)
     (was_other k n true window.objects other) (marked_numbers k n true window.objects)
 
-pub begun_itself : (window : WindowState) (n : ℕ) → list_any (has_number n) window.objects ≡ true
-    → state_of_put (marked n true window) n ≡ Begun
-begun_itself window n open_ = was_begun_is (marked n true window) n (was_begun n window.objects open_)
+pub begun_itself : (window : WindowState) (given_out : List ℕ) (n : ℕ) → list_any (has_number n) window.objects ≡ true
+    → put_state (marked n true window) given_out n ≡ Begun
+begun_itself window given_out n open_ = was_begun_is (marked n true window) given_out n (was_begun n window.objects open_)
 
 -- a put is done: the others have, and it is acknowledged
-pub done_others : (window : WindowState) (k n : ℕ) → (k ≡ n → ⊥) → state_of_put (acknowledged n window) k ≡ state_of_put window k
-done_others window k n other =
+pub done_others : (window : WindowState) (given_out : List ℕ) (k n : ℕ) → (k ≡ n → ⊥)
+    → put_state (acknowledged n window) given_out k ≡ put_state window given_out k
+done_others window given_out k n other =
     state_same (was_started k window.objects) (was_started k (without n window.objects))
-    (list_any (has_number k) window.objects) (list_any (has_number k) (without n window.objects))
+    (list_any (has_number k) window.objects) (list_any (has_number k) (without n window.objects)) (has given_out k)
     (others_was k n window.objects other) (others_open k n window.objects other)
 
-not_open_by : (was is_open : Bool) → (was ≡ true → is_open ≡ true) → is_open ≡ false → state_by was is_open ≡ Acknowledged
-not_open_by true is_open opens none = (let open_ = opens refl in let bad : ⊥ = cc in absurd bad)
-not_open_by false is_open opens none = ap (λ b. state_by false b) none
+not_open_by : (was is_open given : Bool) → (was ≡ true → is_open ≡ true) → is_open ≡ false
+    → state_by was is_open given ≡ (if given then GivenOut else Acknowledged)
+not_open_by true is_open given opens none = (let open_ = opens refl in let bad : ⊥ = cc in absurd bad)
+not_open_by false is_open given opens none = ap (λ b. state_by false b given) none
 
-pub done_itself : (window : WindowState) (n : ℕ) → Ascends 0 window.objects window.last
-    → state_of_put (acknowledged n window) n ≡ Acknowledged
-done_itself window n order =
-    not_open_by (was_started n (without n window.objects)) (list_any (has_number n) (without n window.objects))
-    (was_open n (without n window.objects)) (not_open_now n 0 window.objects window.last order)
+-- one that is not open is acknowledged, or was given out
+pub closed_state : (window : WindowState) (given_out : List ℕ) (n : ℕ) → list_any (has_number n) window.objects ≡ false
+    → put_state window given_out n ≡ (if has given_out n then GivenOut else Acknowledged)
+closed_state window given_out n none =
+    not_open_by (was_started n window.objects) (list_any (has_number n) window.objects) (has given_out n)
+    (was_open n window.objects) none
+
+pub done_itself : (window : WindowState) (given_out : List ℕ) (n : ℕ) → Ascends 0 window.objects window.last
+    → has given_out n ≡ false → put_state (acknowledged n window) given_out n ≡ Acknowledged
+done_itself window given_out n order not_given =
+    closed_state (acknowledged n window) given_out n (not_open_now n 0 window.objects window.last order)
+    ∙ ap (λ b. if b then GivenOut else Acknowledged) not_given
 
 -- an object is sealed: the others have, and its put was not begun
-abbrev new_object : ℕ → OpenObject
-new_object number = record { number = number; is_checkpoint = false; is_started = false; was_started = false }
+abbrev new_object : ℕ → Bool → OpenObject
+new_object number is_checkpoint =
+    record { number = number; is_checkpoint = is_checkpoint; is_started = false; was_started = false }
 
-pub sealed_others : (window : WindowState) (k : ℕ) → k ≤ window.last
-    → state_of_put (entered (window.last + 1) false window) k ≡ state_of_put window k
-sealed_others window k within =
-    let object : OpenObject = new_object (window.last + 1) in
-    let not_it : has_number k object ≡ false = ne_eqb (window.last + 1) k (λ e. omega (arith, e, within)) in
+pub sealed_others : (window : WindowState) (given_out : List ℕ) (is_checkpoint : Bool) (k : ℕ) → (k ≡ window.last + 1 → ⊥)
+    → put_state (entered (window.last + 1) is_checkpoint window) given_out k ≡ put_state window given_out k
+sealed_others window given_out is_checkpoint k other =
+    let object : OpenObject = new_object (window.last + 1) is_checkpoint in
+    let not_it : has_number k object ≡ false = ne_eqb (window.last + 1) k (λ e. other (sym e)) in
     state_same (was_started k window.objects) (was_started k (window.objects ++ object ∷ []))
-    (list_any (has_number k) window.objects) (list_any (has_number k) (window.objects ++ object ∷ []))
+    (list_any (has_number k) window.objects) (list_any (has_number k) (window.objects ++ object ∷ [])) (has given_out k)
     (any_more (was_started_with k) window.objects object (and-false (has_number k object)))
     (any_more (has_number k) window.objects object not_it)
 
-not_begun_by : (was is_open : Bool) → was ≡ false → is_open ≡ true → state_by was is_open ≡ NotBegun
-not_begun_by was is_open not_was open_ = ap (λ b. state_by b is_open) not_was ∙ ap (λ b. state_by false b) open_
+not_begun_by : (was is_open given : Bool) → was ≡ false → is_open ≡ true → state_by was is_open given ≡ NotBegun
+not_begun_by was is_open given not_was open_ =
+    ap (λ b. state_by b is_open given) not_was ∙ ap (λ b. state_by false b given) open_
 
 not_was : (n : ℕ) (objects : List OpenObject) → list_any (has_number n) objects ≡ false → was_started n objects ≡ false
 not_was n objects none = by_test (was_started n objects) refl
@@ -272,12 +297,13 @@ not_was n objects none = by_test (was_started n objects) refl
     by_test false is = refl
     by_test true is = (let open_ = was_open n objects is in let bad : ⊥ = cc in absurd bad)
 
-pub sealed_itself : (window : WindowState) → Ascends 0 window.objects window.last
-    → state_of_put (entered (window.last + 1) false window) (window.last + 1) ≡ NotBegun
-sealed_itself window order =
+pub sealed_itself : (window : WindowState) (given_out : List ℕ) (is_checkpoint : Bool) → Ascends 0 window.objects window.last
+    → put_state (entered (window.last + 1) is_checkpoint window) given_out (window.last + 1) ≡ NotBegun
+sealed_itself window given_out is_checkpoint order =
     let n : ℕ = window.last + 1 in
-    let object : OpenObject = new_object n in
+    let object : OpenObject = new_object n is_checkpoint in
     let none : list_any (has_number n) window.objects ≡ false = none_past n 0 window.objects window.last order (omega arith) in
     not_begun_by (was_started n (window.objects ++ object ∷ [])) (list_any (has_number n) (window.objects ++ object ∷ []))
+    (has given_out n)
     (any_more (was_started_with n) window.objects object (and-false (has_number n object)) ∙ not_was n window.objects none)
     (any_last (has_number n) window.objects object (eq-eqb n n refl))

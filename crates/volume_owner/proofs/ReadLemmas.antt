@@ -1,6 +1,6 @@
 -- What a flush does, and a look with the release of its plan.
 use Rattle.std.proofs.Common.{◌≡◌, ℕ, ◌*◌, ◌/◌, ◌==◌, nat_eq, ◌⊎◌, inl, inr, Bool, true, false, cond, ◌&&◌, ◌||◌, List, [], ◌∷◌}
-use Rattle.std.proofs.Common.{◌++◌, length, refl, sym, ◌∙◌, ap, subst, arith}
+use Rattle.std.proofs.Common.{◌++◌, ◌≤◌, length, refl, sym, ◌∙◌, ap, subst, arith}
 use Rattle.std.specs.Prelude.{Option, Some, None, IfSome, IsSome, Ok, Err, if◌then◌else◌}
 use Rattle.std.specs.List.{list_any}
 use Rattle.std.proofs.lemmas.Bool.{eq-eqb}
@@ -87,7 +87,12 @@ module _ {R : Type 0} (state : R → ReceiptState) (reply : Reply R) (old new : 
   pub flush_idle : IsIdle old.volume → IsIdle new.volume
   flush_idle idle =
       let was = shown_idle old.volume plain shows idle in
-      idle_shown new.volume _ flushing.shows (record { puts = was.puts; plans = was.plans })
+      idle_shown new.volume _ flushing.shows (record {
+        puts = was.puts;
+        plans = was.plans;
+        none_out = was.none_out;
+        few = was.few;
+      })
 
   -- what is left to seal and to put stays
   pub flush_work : work_of new.volume ≡ work_of old.volume
@@ -236,9 +241,9 @@ module _ {R : Type 0} (state : R → ReceiptState) (reply : Reply R) (lba sector
   looked_idle_by plain left now true true was not_planned tells shows =
       let planned = tells_planned state old.volume reply _ tells in absurd (not_planned planned.0 planned.1)
   looked_idle_by plain left now true false was not_planned tells shows =
-      idle_shown new.volume _ shows (record { puts = was.puts; plans = was.plans })
+      idle_shown new.volume _ shows (record { puts = was.puts; plans = was.plans; none_out = was.none_out; few = was.few })
   looked_idle_by plain left now false passed was not_planned tells shows =
-      idle_shown new.volume _ shows (record { puts = was.puts; plans = was.plans })
+      idle_shown new.volume _ shows (record { puts = was.puts; plans = was.plans; none_out = was.none_out; few = was.few })
 
   pub not_looked_idle : (plain : PlainState) → Shows old.volume plain → IsIdle old.volume
       → ((plan : PlanState) → reply ≡ told.Planned plan → ⊥) → IsIdle new.volume
@@ -258,6 +263,7 @@ module _ {R : Type 0} (state : R → ReceiptState) (reply : Reply R) (lba sector
     pub tells_read : TellsRead old.volume plan (planned_read plain lba sectors)
     pub window : after.window ≡ plain.window
     pub pins : after.pins ≡ plain.pins ++ plan.objects
+    pub removal : after.removal ≡ plain.removal
 
   looked_by : (plan : PlanState) (plain : PlainState) (left now : Fuse) (may passed : Bool)
       → Tells {R = R} state old.volume (told.Planned plan)
@@ -268,7 +274,14 @@ module _ {R : Type 0} (state : R → ReceiptState) (reply : Reply R) (lba sector
       } else passing left plain)) → IsLooked plan plain
   looked_by plan plain left now true true tells shows =
       let is = (planned_by state old.volume plan lba sectors plain true true tells).2 in
-      record { after = _; shows = shows; tells_read = is; window = refl; pins = ap (λ o. plain.pins ++ o) (sym is.objects) }
+      record {
+        after = _;
+        shows = shows;
+        tells_read = is;
+        window = refl;
+        pins = ap (λ o. plain.pins ++ o) (sym is.objects);
+        removal = refl;
+      }
   looked_by plan plain left now true false tells shows = (let is = tells.1 in let bad : ⊥ = cc in absurd bad)
   looked_by plan plain left now false passed tells shows = (let is = tells.1 in let bad : ⊥ = cc in absurd bad)
 
@@ -305,11 +318,11 @@ module _ {R : Type 0} (state : R → ReceiptState) (reply : Reply R) (lba sector
       release_faults plain shows = silent_faults state (asks.Release plan) back plain new last (λ asked is. ap is_silent is)
           shows given
 
-      released_by : (plain : PlainState) → any_started plain.window.objects ≡ false → plain.pins ≡ plan.objects
+      released_by : (plain : PlainState) → IsIdlePlain (record plain { pins = [] }) → plain.pins ≡ plan.objects
           → IsStep state (asks.Release plan) back plain new.volume last.volume
           ⊎ IsNoStep state (asks.Release plan) back plain new.volume last.volume
           → IsIdle last.volume
-      released_by plain puts pins (inl s) =
+      released_by plain was pins (inl s) =
           let ready : PlainState = passing s.left plain in
           let now : Fuse = fuse_in last.volume.log.commits.disk.budget in
           let all = pinned_again plan.objects in
@@ -320,15 +333,20 @@ module _ {R : Type 0} (state : R → ReceiptState) (reply : Reply R) (lba sector
           let gone : Shows last.volume (passing now (record ready { pins = without_pins plan.objects plain.pins })) =
           subst (λ (b : Bool). Shows last.volume
           (passing now (if b then record ready { pins = without_pins plan.objects plain.pins } else ready))) are shown in
-          idle_shown last.volume _ gone (record { puts = puts; plans = none })
-      released_by plain puts pins (inr n) = (let may = n.may in let bad : ⊥ = cc in absurd bad)
+          idle_shown last.volume _ gone (record { puts = was.puts; plans = none; none_out = was.none_out; few = was.few })
+      released_by plain was pins (inr n) = (let may = n.may in let bad : ⊥ = cc in absurd bad)
 
       pub released_idle : (plain : PlainState) → Shows old.volume plain → IsIdle old.volume → reply ≡ told.Planned plan
           → IsIdle last.volume
       released_idle plain shows idle is =
           let was = shown_idle old.volume plain shows idle in
           let look = looked plan plain shows is in
-          released_by look.after (ap (λ (w : WindowState). any_started w.objects) look.window ∙ was.puts)
+          released_by look.after (record {
+            puts = ap (λ (w : WindowState). any_started w.objects) look.window ∙ was.puts;
+            plans = refl;
+            none_out = look.removal ∙ was.none_out;
+            few = subst (λ (w : WindowState). length w.objects ≤ 16) (sym look.window) was.few;
+          })
           (look.pins ∙ ap (λ (p : List ℕ). p ++ plan.objects) was.plans) (given.step.step look.after look.shows)
 
   -- ---- what it gives

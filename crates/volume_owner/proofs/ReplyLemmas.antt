@@ -163,6 +163,38 @@ reply_cases (told.NotReturned job) =
       again = λ back is. (let bad : ⊥ = cc in absurd bad);
       count = λ count is. cc;
     })
+reply_cases (told.Removing receipt) =
+    inr (record {
+      other = λ count is. cc;
+      none = λ entry. refl;
+      fault = refl;
+      again = λ back is. (let bad : ⊥ = cc in absurd bad);
+      count = λ count is. cc;
+    })
+reply_cases told.Removed =
+    inr (record {
+      other = λ count is. cc;
+      none = λ entry. refl;
+      fault = refl;
+      again = λ back is. (let bad : ⊥ = cc in absurd bad);
+      count = λ count is. cc;
+    })
+reply_cases told.GivenBack =
+    inr (record {
+      other = λ count is. cc;
+      none = λ entry. refl;
+      fault = refl;
+      again = λ back is. (let bad : ⊥ = cc in absurd bad);
+      count = λ count is. cc;
+    })
+reply_cases (told.NotGivenBack receipt) =
+    inr (record {
+      other = λ count is. cc;
+      none = λ entry. refl;
+      fault = refl;
+      again = λ back is. (let bad : ⊥ = cc in absurd bad);
+      count = λ count is. cc;
+    })
 reply_cases (told.Told a b c d) =
     inr (record {
       other = λ count is. cc;
@@ -231,6 +263,10 @@ job_cases (told.Done n) = inr refl
 job_cases (told.NotDone job receipt) = inr refl
 job_cases told.Returned = inr refl
 job_cases (told.NotReturned job) = inr refl
+job_cases (told.Removing receipt) = inr refl
+job_cases told.Removed = inr refl
+job_cases told.GivenBack = inr refl
+job_cases (told.NotGivenBack receipt) = inr refl
 job_cases (told.Told a b c d) = inr refl
 job_cases told.Range = inr refl
 job_cases told.Nothing = inr refl
@@ -255,6 +291,10 @@ count_cases (told.Done n) = inr refl
 count_cases (told.NotDone job receipt) = inr refl
 count_cases told.Returned = inr refl
 count_cases (told.NotReturned job) = inr refl
+count_cases (told.Removing receipt) = inr refl
+count_cases told.Removed = inr refl
+count_cases told.GivenBack = inr refl
+count_cases (told.NotGivenBack receipt) = inr refl
 count_cases (told.Told a b c d) = inr refl
 count_cases told.Range = inr refl
 count_cases told.Nothing = inr refl
@@ -280,6 +320,10 @@ seal_cases (told.Done n) = inr (inr refl)
 seal_cases (told.NotDone job receipt) = inr (inr refl)
 seal_cases told.Returned = inr (inr refl)
 seal_cases (told.NotReturned job) = inr (inr refl)
+seal_cases (told.Removing receipt) = inr (inr refl)
+seal_cases told.Removed = inr (inr refl)
+seal_cases told.GivenBack = inr (inr refl)
+seal_cases (told.NotGivenBack receipt) = inr (inr refl)
 seal_cases (told.Told a b c d) = inr (inr refl)
 seal_cases told.Range = inr (inr refl)
 seal_cases told.Nothing = inr (inl refl)
@@ -328,6 +372,10 @@ plan_cases (told.Done n) = inr (record { error = errors.OutOfMemory; is = refl; 
 plan_cases (told.NotDone job receipt) = inr (record { error = errors.OutOfMemory; is = refl; fault = refl; no_range = λ is. cc })
 plan_cases told.Returned = inr (record { error = errors.OutOfMemory; is = refl; fault = refl; no_range = λ is. cc })
 plan_cases (told.NotReturned job) = inr (record { error = errors.OutOfMemory; is = refl; fault = refl; no_range = λ is. cc })
+plan_cases (told.Removing receipt) = inr (record { error = errors.OutOfMemory; is = refl; fault = refl; no_range = λ is. cc })
+plan_cases told.Removed = inr (record { error = errors.OutOfMemory; is = refl; fault = refl; no_range = λ is. cc })
+plan_cases told.GivenBack = inr (record { error = errors.OutOfMemory; is = refl; fault = refl; no_range = λ is. cc })
+plan_cases (told.NotGivenBack receipt) = inr (record { error = errors.OutOfMemory; is = refl; fault = refl; no_range = λ is. cc })
 plan_cases (told.Told a b c d) = inr (record { error = errors.OutOfMemory; is = refl; fault = refl; no_range = λ is. cc })
 plan_cases told.Range = inr (record { error = errors.OutOfMemory; is = refl; fault = refl; no_range = λ is. cc })
 plan_cases told.Nothing = inr (record { error = errors.OutOfMemory; is = refl; fault = refl; no_range = λ is. cc })
@@ -353,6 +401,10 @@ memory_is_no_fault (told.Done n) is = let bad : ⊥ = cc in absurd bad
 memory_is_no_fault (told.NotDone job receipt) is = let bad : ⊥ = cc in absurd bad
 memory_is_no_fault told.Returned is = let bad : ⊥ = cc in absurd bad
 memory_is_no_fault (told.NotReturned job) is = let bad : ⊥ = cc in absurd bad
+memory_is_no_fault (told.Removing receipt) is = let bad : ⊥ = cc in absurd bad
+memory_is_no_fault told.Removed is = let bad : ⊥ = cc in absurd bad
+memory_is_no_fault told.GivenBack is = let bad : ⊥ = cc in absurd bad
+memory_is_no_fault (told.NotGivenBack receipt) is = let bad : ⊥ = cc in absurd bad
 memory_is_no_fault (told.Told a b c d) is = let bad : ⊥ = cc in absurd bad
 memory_is_no_fault told.Range is = let bad : ⊥ = cc in absurd bad
 memory_is_no_fault told.Nothing is = let bad : ⊥ = cc in absurd bad

@@ -1,10 +1,12 @@
 -- What a step of a volume adds to its history.
-use Rattle.std.proofs.Common.{arith, ◌≡◌, ℕ, ◌+◌, ◌*◌, ◌≤◌, ◌⊎◌, inl, inr, true, false, List, [], ◌∷◌, ◌++◌, length}
-use Rattle.std.proofs.Common.{length-append, append-nil, append_assoc, refl, sym, ◌∙◌, ap}
+use Rattle.std.proofs.Common.{arith, ◌≡◌, ℕ, ◌+◌, ◌*◌, ◌≤◌, ◌⊎◌, inl, inr, Bool, true, false, cond, List, [], ◌∷◌, ◌++◌, length}
+use Rattle.std.proofs.Common.{length-append, append-nil, append_assoc, refl, sym, ◌∙◌, ap, subst}
+use Rattle.std.specs.Prelude.{◌==◌, None}
+use Rattle.std.proofs.lemmas.Bool.{eq-eqb}
+use Rattle.std.proofs.lemmas.List.Sums.{sum_by-cons}
 use Rattle.lsvd_base.specs.declared.entry.Entry.{Entry}
 use Rattle.lsvd_device.specs.Calls.{Fuse}
 use Rattle.lsvd_objstore.specs.Store.{ReceiptState}
-use Rattle.object_stream.specs.declared.object.StreamObject.{StreamObject}
 use Rattle.cache_log.specs.Log.{LogState, next_seq, all_rows}
 use Rattle.upload_window.specs.Window.{WindowState}
 use Rattle.plain_disk.specs.declared.event.PlainEvent.{PlainEvent}
@@ -12,14 +14,13 @@ use Rattle.plain_disk.specs.declared.log.PlainCommit.{PlainCommit}
 use Rattle.plain_disk.specs.declared.log.PlainRecord.{PlainRecord}
 use Rattle.plain_disk.specs.State.{PlainState, history_length, unsealed_entries}
 use Rattle.plain_disk.specs.Step.{plain_after}
-use Rattle.plain_disk.proofs.FirstLemmas.{first_with}
 use Rattle.refine_log.proofs.Following.{records_count}
-use Rattle.read_plan.specs.Pins.{times}
-use Rattle.read_plan.proofs.PinLemmas.{times_there}
+use Rattle.refine_objects.specs.Table.{times_pinned}
 use Rattle.vol_core.specs.declared.event.Event.{Event}
 use Rattle.vol_core.specs.declared.reply.Reply.{Reply}
 use Rattle.vol_core.specs.Volume.{VolumeState, SteppedVolume}
 use Rattle.vol_core.specs.Shows.{Shows}
+use Rattle.vol_core.specs.View.{HasNoPins}
 use Rattle.vol_core.specs.Events.{Asks}
 use Rattle.vol_core.specs.Step.{passing, IsStep, IsNoStep, HasSameSizes, CountedStep}
 use Rattle.vol_core.proofs.StepLemmas.{passing_keeps}
@@ -40,7 +41,17 @@ goes_on_passing added left now plain after goes = record {
   objects = goes.objects;
   frontier = goes.frontier;
   committed = goes.committed;
+  checkpoint = goes.checkpoint;
+  given_out = goes.given_out;
+  removed = goes.removed;
 }
+
+more_after : {T : Type 0} (plain mid after : List T) → (more : List T) × (mid ≡ plain ++ more)
+    → (more : List T) × (after ≡ mid ++ more) → (more : List T) × (after ≡ plain ++ more)
+more_after plain mid after first second = (
+  first.0 ++ second.0,
+  second.1 ∙ ap (λ xs. xs ++ second.0) first.1 ∙ append_assoc plain first.0 second.0,
+)
 
 pub goes_on_then : (added : List Entry) (plain mid after : PlainState) → GoesOn [] plain mid → GoesOn added mid after
     → GoesOn added plain after
@@ -51,24 +62,31 @@ goes_on_then added plain mid after first second = record {
         entries = m.entries ++ added;
         objects = after.objects;
         window = after.window;
+        checkpoint = after.checkpoint;
         pins = after.pins;
+        removed = after.removed;
+        given_out = after.given_out;
+        removal = after.removal;
         cache = after.cache;
       }) first.opens
       ∙ ap (λ (es : List Entry). record plain {
         entries = es ++ added;
         objects = after.objects;
         window = after.window;
+        checkpoint = after.checkpoint;
         pins = after.pins;
+        removed = after.removed;
+        given_out = after.given_out;
+        removal = after.removal;
         cache = after.cache;
       })
       (append-nil plain.entries);
-  objects = (
-    first.objects.0 ++ second.objects.0,
-    second.objects.1 ∙ ap (λ (o : List StreamObject). o ++ second.objects.0) first.objects.1
-        ∙ append_assoc plain.objects first.objects.0 second.objects.0,
-  );
+  objects = more_after plain.objects mid.objects after.objects first.objects second.objects;
   frontier = omega (arith, first.frontier, second.frontier);
   committed = omega (arith, first.committed, second.committed);
+  checkpoint = omega (arith, first.checkpoint, second.checkpoint);
+  given_out = more_after plain.given_out mid.given_out after.given_out first.given_out second.given_out;
+  removed = more_after plain.removed mid.removed after.removed first.removed second.removed;
 }
 
 -- the entries of both
@@ -81,24 +99,31 @@ goes_on_more xs ys plain mid after first second = record {
         entries = m.entries ++ ys;
         objects = after.objects;
         window = after.window;
+        checkpoint = after.checkpoint;
         pins = after.pins;
+        removed = after.removed;
+        given_out = after.given_out;
+        removal = after.removal;
         cache = after.cache;
       }) first.opens
       ∙ ap (λ (es : List Entry). record plain {
         entries = es;
         objects = after.objects;
         window = after.window;
+        checkpoint = after.checkpoint;
         pins = after.pins;
+        removed = after.removed;
+        given_out = after.given_out;
+        removal = after.removal;
         cache = after.cache;
       })
       (append_assoc plain.entries xs ys);
-  objects = (
-    first.objects.0 ++ second.objects.0,
-    second.objects.1 ∙ ap (λ (o : List StreamObject). o ++ second.objects.0) first.objects.1
-        ∙ append_assoc plain.objects first.objects.0 second.objects.0,
-  );
+  objects = more_after plain.objects mid.objects after.objects first.objects second.objects;
   frontier = omega (arith, first.frontier, second.frontier);
   committed = omega (arith, first.committed, second.committed);
+  checkpoint = omega (arith, first.checkpoint, second.checkpoint);
+  given_out = more_after plain.given_out mid.given_out after.given_out first.given_out second.given_out;
+  removed = more_after plain.removed mid.removed after.removed first.removed second.removed;
 }
 
 pub adds_then : (added : List Entry) (old mid new : VolumeState) → Adds [] old mid → Adds added mid new → Adds added old new
@@ -160,34 +185,40 @@ length_is count volume plain shows is other others = is ∙ sym (shown_length vo
 pub record IsIdlePlain (plain : PlainState) : Type 0 where
   pub puts : any_started plain.window.objects ≡ false
   pub plans : plain.pins ≡ []
+  pub none_out : plain.removal ≡ None
+  pub few : length plain.window.objects ≤ 16
 
-no_pins : (pins : List ℕ) → ((number : ℕ) → times number pins ≡ 0) → pins ≡ []
+pinned_once : (pin : ℕ) (pins : List ℕ) → times_pinned pin (pin ∷ pins) ≡ 0 → ⊥
+pinned_once pin pins none =
+    let one : ℕ → ℕ = λ (other : ℕ). cond (other == pin) 1 0 in
+    let more : times_pinned pin (pin ∷ pins) ≡ one pin + times_pinned pin pins = sum_by-cons one pin pins in
+    let own : one pin ≡ 1 = ap (λ (b : Bool). cond b 1 0) (eq-eqb pin pin refl) in
+    omega (arith, none, more, own)
+
+no_pins : (pins : List ℕ) → ((number : ℕ) → times_pinned number pins ≡ 0) → pins ≡ []
 no_pins [] none = refl
-no_pins (pin ∷ pins) none =
-    let here = none pin in
-    let some = times_there pin 0 (pin ∷ pins) (omega arith) refl in
-    let bad : ⊥ = omega (arith, here, some) in
-    absurd bad
+no_pins (pin ∷ pins) none = absurd (pinned_once pin pins (none pin))
 
-same_pins : (pins others : List ℕ) → ((number : ℕ) → times number pins ≡ times number others) → pins ≡ [] → others ≡ []
-same_pins pins others same none = no_pins others (λ number. sym (same number) ∙ ap (times number) none)
+pub plans_shown : (volume : VolumeState) (plain : PlainState) → Shows volume plain → plain.pins ≡ [] → HasNoPins volume
+plans_shown volume plain shows none number = shows.table.pins number ∙ ap (times_pinned number) none
 
-pub plans_shown : (volume : VolumeState) (plain : PlainState) → Shows volume plain → plain.pins ≡ [] → volume.pins ≡ []
-plans_shown volume plain shows none = same_pins plain.pins volume.pins (λ number. sym (shows.pins number)) none
-
-pub plans_plain : (volume : VolumeState) (plain : PlainState) → Shows volume plain → volume.pins ≡ [] → plain.pins ≡ []
-plans_plain volume plain shows none = same_pins volume.pins plain.pins shows.pins none
+pub plans_plain : (volume : VolumeState) (plain : PlainState) → Shows volume plain → HasNoPins volume → plain.pins ≡ []
+plans_plain volume plain shows none = no_pins plain.pins (λ number. sym (shows.table.pins number) ∙ none number)
 
 pub shown_idle : (volume : VolumeState) (plain : PlainState) → Shows volume plain → IsIdle volume → IsIdlePlain plain
 shown_idle volume plain shows idle = record {
   puts = ap (λ (w : WindowState). any_started w.objects) (sym shows.objects.window) ∙ idle.puts;
   plans = plans_plain volume plain shows idle.plans;
+  none_out = sym shows.table.removal ∙ idle.none_out;
+  few = subst (λ (w : WindowState). length w.objects ≤ 16) shows.objects.window idle.few;
 }
 
 pub idle_shown : (volume : VolumeState) (plain : PlainState) → Shows volume plain → IsIdlePlain plain → IsIdle volume
 idle_shown volume plain shows idle = record {
   puts = ap (λ (w : WindowState). any_started w.objects) shows.objects.window ∙ idle.puts;
   plans = plans_shown volume plain shows idle.plans;
+  none_out = shows.table.removal ∙ idle.none_out;
+  few = subst (λ (w : WindowState). length w.objects ≤ 16) (sym shows.objects.window) idle.few;
 }
 
 -- ---- a step
@@ -201,8 +232,7 @@ pub quiet_after : {R : Type 0} (state : R → ReceiptState) (event : Event R) (r
 quiet_after state event reply plain old new quiet shows (inl s) =
     let ready : PlainState = passing s.left plain in
     let goes =
-    quiet_goes_on ready s.asked (passing_keeps s.left plain shows.valid)
-    (first_with plain plain.entries ready.cache plain.pins shows.alone) (quiet s.asked s.asks) in
+    quiet_goes_on ready s.asked (passing_keeps s.left plain shows.valid) (quiet s.asked s.asks) in
     (_, s.shows, goes_on_passing [] s.left _ plain (plain_after s.asked ready) goes)
 quiet_after state event reply plain old new quiet shows (inr n) = (plain, n.shows, goes_on_nothing plain)
 

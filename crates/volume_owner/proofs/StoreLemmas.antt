@@ -1,39 +1,31 @@
 -- Over each act of a call, and over all of them, the store of a volume goes on standing for what the volume shows.
-use Rattle.std.proofs.Common.{arith, ◌≡◌, ℕ, ◌+◌, ◌<◌, ◌≤◌, ◌⊎◌, inl, inr, Bool, true, false, cond, not, ◌&&◌, List, [], ◌∷◌}
-use Rattle.std.proofs.Common.{◌++◌}
-use Rattle.std.proofs.Common.{flat_map, refl, sym, ◌∙◌, ap, subst}
+use Rattle.std.proofs.Common.{arith, ◌≡◌, ℕ, ◌⊎◌, inl, inr, Bool, true, false, cond, not, ◌&&◌}
+use Rattle.std.proofs.Common.{List, [], ◌∷◌, ◌++◌, flat_map, refl, sym, ◌∙◌, ap, subst}
 use Rattle.std.specs.Prelude.{Option, Some, None, IfSome}
 use Rattle.lsvd_base.specs.declared.entry.Entry.{Entry}
 use Rattle.lsvd_base.specs.declared.entry.Entry.TheVariants as entries
 use Rattle.lsvd_base.specs.Limits.{may_transfer}
 use Rattle.lsvd_names.specs.Names.{numbered_name}
 use Rattle.lsvd_device.specs.Calls.{Fuse}
-use Rattle.lsvd_names.specs.declared.name.ObjName.{ObjName}
-use Rattle.lsvd_objstore.specs.Objects.{Objects, found, IsPut, MayBePut}
+use Rattle.lsvd_objstore.specs.Objects.{Objects, found, IsPut, MayBePut, IsRemoved, MayBeRemoved}
 use Rattle.lsvd_objstore.specs.Store.{StoreState, ReceiptState, Becomes}
 use Rattle.refine_log.specs.Fuses.{fuse_in}
 use Rattle.object_recovery.specs.Checkpoints.{expected_of}
-use Rattle.object_stream.specs.declared.object.Content.TheVariants.{Data}
-use Rattle.object_stream.specs.declared.object.StreamObject.{StreamObject}
 use Rattle.object_uploads.specs.Order.{IsUploads}
 use Rattle.object_uploads.specs.State.{JobState}
 use Rattle.object_uploads.specs.Changes.{IsOut, IsJobOf}
 use Rattle.object_uploads.proofs.UploadsKept.{frontier_below}
 use Rattle.plain_disk.specs.declared.event.PlainEvent.{PlainEvent}
 use Rattle.plain_disk.specs.declared.event.PlainEvent.TheVariants as events
-use Rattle.plain_disk.specs.Cache.{after_reads}
-use Rattle.plain_disk.specs.Objects.{has_unsealed, is_busy, end_of_next, reply_of_taken, window_after_take, window_after_done}
-use Rattle.plain_disk.specs.Objects.{window_after_failed}
-use Rattle.plain_disk.specs.Reads.{look_calls, passes_look, objects_read, are_pinned, without_pins}
+use Rattle.plain_disk.specs.Objects.{has_unsealed, is_busy, reply_of_taken, window_after_take}
+use Rattle.plain_disk.specs.Reads.{are_pinned}
+use Rattle.plain_disk.specs.Removals.{has, to_remove, with_removal, is_out}
 use Rattle.plain_disk.specs.State.{PlainState}
 use Rattle.plain_disk.specs.Step.{plain_reply, plain_after}
-use Rattle.plain_disk.proofs.FirstLemmas.{first_with}
-use Rattle.stopped_volume.specs.Store.PutState.{Begun}
-use Rattle.refine_store.specs.Puts.{IsObjectOf, state_of_put}
+use Rattle.refine_store.specs.Puts.{IsObjectOf}
 use Rattle.refine_store.specs.Stored.{StoreStands}
 use Rattle.refine_store.proofs.JobLemmas.{job_is_object}
-use Rattle.upload_window.specs.Window.{WindowState, below_open, lowest_ready, is_started, entered, marked, acknowledged}
-use Rattle.upload_window.proofs.Starts.{started_were}
+use Rattle.upload_window.specs.Window.{WindowState, below_open, lowest_ready}
 use Rattle.vol_core.specs.declared.event.Event.{Event}
 use Rattle.vol_core.specs.declared.event.Event.TheVariants as asks
 use Rattle.vol_core.specs.declared.reply.Reply.{Reply}
@@ -41,11 +33,12 @@ use Rattle.vol_core.specs.declared.reply.Reply.TheVariants as told
 use Rattle.vol_core.specs.Volume.{VolumeState, SteppedVolume}
 use Rattle.vol_core.specs.Calls.{event_of}
 use Rattle.vol_core.specs.Shows.{Shows}
+use Rattle.vol_core.specs.View.{removal_out}
 use Rattle.vol_core.specs.Events.{Tells, IsOfPut, IsOfDonePut}
 use Rattle.vol_core.specs.Step.{passing, IsStep, IsNoStep}
 use Rattle.vol_core.proofs.StepLemmas.{passing_keeps}
-use Rattle.volume_owner.specs.Acts.{Moment, Act, Made, Puts, Gets, entered_if_told, entered_by_event, entered_by_act}
-use Rattle.volume_owner.specs.Acts.{HasItsObject, IsStepAct, PutLeaves, IsAct, AreActs, MayBeLeftInAct}
+use Rattle.volume_owner.specs.Acts.{Moment, Act, Made, Puts, Removes, Gets, entered_if_told, entered_by_event, entered_by_act}
+use Rattle.volume_owner.specs.Acts.{HasItsObject, IsStepAct, PutLeaves, RemovalLeaves, IsAct, AreActs, MayBeLeftInAct}
 use Rattle.volume_owner.specs.Acts.{IsMadeOfActs}
 use Rattle.volume_owner.specs.History.{GoesOn}
 use Rattle.volume_owner.specs.Standing.{StandAt, HasStore, KeepsStore}
@@ -54,37 +47,15 @@ use Rattle.volume_owner.proofs.WindowLemmas.{ready_is_open}
 use Rattle.volume_owner.proofs.TellsLemmas.{tells_taken}
 use Rattle.volume_owner.proofs.ReplyLemmas.{reply_cases}
 use Rattle.volume_owner.proofs.StepLemmas.{goes_on_passing, goes_on_more}
+use Rattle.volume_owner.proofs.EventLeaves.{LeavesObjects, nothing_leaves, event_leaves}
 use Rattle.volume_owner.proofs.EnterLemmas.{entering}
 use Rattle.volume_owner.proofs.HelpLemmas.{taken_number}
 use Rattle.volume_owner.proofs.ActLemmas.{told_as_tried}
-use Rattle.volume_owner.proofs.MarkLemmas.{open_within, started_open, was_begun_is}
-use Rattle.volume_owner.proofs.StandLemmas.{put_stands_still}
-use Rattle.volume_owner.proofs.KeepLemmas.{IsWindowStep, stays, seals, begins, ends, fails, step_stands}
-
--- ---- a put that is out
-
--- its put was begun, and its number is past the first
-pub record IsBegunPut (plain : PlainState) (n : ℕ) : Type 0 where
-  pub past : plain.number < n
-  pub within : n ≤ plain.window.last
-  pub begun : state_of_put plain.window n ≡ Begun
-
-pub begun_put_is : (volume : VolumeState) (plain : PlainState) (n : ℕ) (bytes : List ℕ) → Shows volume plain
-    → IsOut volume.objects.uploads n bytes
-    → IsBegunPut plain n × (is_started n plain.window.objects ≡ true)
-begun_put_is volume plain n bytes shows out =
-    let started : is_started n plain.window.objects ≡ true =
-    ap (λ (w : WindowState). is_started n w.objects) (sym shows.objects.window) ∙ out.started in
-    let within = open_within n 0 plain.window.objects plain.window.last shows.valid.window.order
-    (started_open n plain.window.objects started) in
-    let was = started_were plain.window shows.valid.window.starts n started in (
-      record {
-        past = omega (arith, within.0, shows.valid.opened);
-        within = within.1;
-        begun = was_begun_is plain.window n was;
-      },
-      started,
-    )
+use Rattle.volume_owner.proofs.MarkLemmas.{open_within}
+use Rattle.volume_owner.proofs.StandLemmas.{is_described, put_stands_still, removal_stands_still}
+use Rattle.volume_owner.proofs.KeepLemmas.{StepLeaves, IsObjectStep, stays, step_stands}
+use Rattle.volume_owner.proofs.ChangeLemmas.{same_everywhere, begun_put_is, given_state, sealed_step, taken_step}
+use Rattle.volume_owner.proofs.ChangeLemmas.{done_step, failed_step, given_out_step, removed_step}
 
 -- ---- a step
 
@@ -93,8 +64,8 @@ record StepKeeps (added : List Entry) (plain : PlainState) (old new : VolumeStat
   after : PlainState
   shows : Shows new after
   goes : GoesOn added plain after
-  window : (objects : Objects) → store.objects ≡ Some objects
-      → IsWindowStep old.objects.uploads.uuid old objects plain after.window
+  leaves : LeavesObjects plain after
+  step : (objects : Objects) → store.objects ≡ Some objects → IsObjectStep old.objects.uploads.uuid old objects plain after
 
 none_told : {R : Type 0} (entry : Entry) (reply : Reply R) → ((count : ℕ) → reply ≡ told.Entered count → ⊥)
     → entered_if_told entry reply ≡ []
@@ -103,11 +74,6 @@ none_told entry reply other =
       | inl e ↦ absurd (other e.0 e.1)
       | inr o ↦ o.none entry
     ]
-
-same_either : (b : Bool) (x y : PlainState) (window : WindowState) → x.window ≡ window → y.window ≡ window
-    → (cond b x y).window ≡ window
-same_either true x y window is_x is_y = is_x
-same_either false x y window is_x is_y = is_y
 
 module _ {R : Type 0} (state : R → ReceiptState) (reply : Reply R) (old new : VolumeState) (store : StoreState)
     (plain : PlainState) (shows : Shows old plain) where
@@ -123,13 +89,15 @@ module _ {R : Type 0} (state : R → ReceiptState) (reply : Reply R) (old new : 
           after = e.after;
           shows = e.shows;
           goes = subst (λ es. GoesOn es plain e.after) (sym (ap (entered_if_told entry) e.told_is)) e.goes;
-          window = λ objects there. stays e.window;
+          leaves = e.leaves;
+          step = λ objects there. stays (same_everywhere plain e.after e.window e.given_out e.removed);
         }
         | inr o ↦ record {
           after = o.after;
           shows = o.shows;
           goes = subst (λ es. GoesOn es plain o.after) (sym (none_told entry reply o.other)) o.goes;
-          window = λ objects there. stays o.window;
+          leaves = o.leaves;
+          step = λ objects there. stays (same_everywhere plain o.after o.window o.given_out o.removed);
         }
       ]
 
@@ -138,87 +106,82 @@ module _ {R : Type 0} (state : R → ReceiptState) (reply : Reply R) (old new : 
     after = plain;
     shows = shown;
     goes = goes_on_nothing plain;
-    window = λ objects there. stays refl;
+    leaves = nothing_leaves plain;
+    step = λ objects there. stays (same_everywhere plain plain refl refl refl);
   }
 
+  -- what an event leaves of the plain volume, whose device passes some calls before it and some after
+  abbrev left_by : Fuse → PlainEvent → PlainState
+  left_by left event = passing (fuse_in new.log.commits.disk.budget) (plain_after event (passing left plain))
+
   -- an event that enters nothing
-  quiet_keeps : (event : Event R) (s : IsStep state event reply plain old new) → is_quiet s.asked ≡ true
-      → ((objects : Objects) → store.objects ≡ Some objects
-      → IsWindowStep uuid old objects plain (plain_after s.asked (passing s.left plain)).window)
+  quiet_keeps : (event : Event R) (asked : PlainEvent) (s : IsStep state event reply plain old new) → s.asked ≡ asked
+      → is_quiet asked ≡ true
+      → ((objects : Objects) → store.objects ≡ Some objects → IsObjectStep uuid old objects plain (left_by s.left asked))
       → StepKeeps [] plain old new store
-  quiet_keeps event s quiet window =
+  quiet_keeps event asked s is quiet step =
       let ready : PlainState = passing s.left plain in
       let now : Fuse = fuse_in new.log.commits.disk.budget in
       record {
-        after = passing now (plain_after s.asked ready);
-        shows = s.shows;
-        goes =
-            goes_on_passing [] s.left now plain (plain_after s.asked ready)
-            (quiet_goes_on ready s.asked (passing_keeps s.left plain shows.valid)
-            (first_with plain plain.entries ready.cache plain.pins shows.alone) quiet);
-        window = window;
+        after = left_by s.left asked;
+        shows = subst (λ e. Shows new (left_by s.left e)) is s.shows;
+        goes = goes_on_passing [] s.left now plain (plain_after asked ready)
+            (quiet_goes_on ready asked (passing_keeps s.left plain shows.valid) quiet);
+        leaves = event_leaves s.left now plain asked shows.valid;
+        step = step;
       }
 
-  -- one that leaves the window too
+  -- one that changes no object
   still_keeps : (event : Event R) (asked : PlainEvent) (s : IsStep state event reply plain old new) → s.asked ≡ asked
-      → is_quiet asked ≡ true
-      → (plain_after asked (passing s.left plain)).window ≡ plain.window → StepKeeps [] plain old new store
-  still_keeps event asked s is quiet same =
-      quiet_keeps event s (ap is_quiet is ∙ quiet)
-      (λ objects there. stays (ap (λ e. (plain_after e (passing s.left plain)).window) is ∙ same))
-
-  -- one that changes it
-  window_keeps : (event : Event R) (asked : PlainEvent) (s : IsStep state event reply plain old new) → s.asked ≡ asked
-      → is_quiet asked ≡ true
-      → ((objects : Objects) → store.objects ≡ Some objects
-      → IsWindowStep uuid old objects plain (plain_after asked (passing s.left plain)).window)
+      → is_quiet asked ≡ true → (left_by s.left asked).window ≡ plain.window
+      → (left_by s.left asked).given_out ≡ plain.given_out → (left_by s.left asked).removed ≡ plain.removed
       → StepKeeps [] plain old new store
-  window_keeps event asked s is quiet window =
-      quiet_keeps event s (ap is_quiet is ∙ quiet)
-      (λ objects there. subst (λ e. IsWindowStep uuid old objects plain (plain_after e (passing s.left plain)).window) (sym is)
-      (window objects there))
+  still_keeps event asked s is quiet window given_out removed =
+      quiet_keeps event asked s is quiet (λ objects there. stays (same_everywhere plain (left_by s.left asked) window given_out
+      removed))
 
-  -- ---- what becomes of the window
+  -- ---- what becomes of the objects
 
-  look_window : (lba sectors : ℕ) (left : Fuse) → (plain_after (events.Look lba sectors) (passing left plain)).window
-      ≡ plain.window
-  look_window lba sectors left =
-      let ready : PlainState = passing left plain in
-      let after : PlainState = record ready {
-        cache = after_reads (look_calls ready lba sectors) ready.cache;
-        pins = cond (passes_look ready lba sectors) (ready.pins ++ objects_read ready lba sectors) ready.pins;
-      } in
-      same_either (may_transfer ready.geometry lba sectors) after ready plain.window refl refl
+  either_step : (objects : Objects) (left : Fuse) (b : Bool) (x y : PlainState)
+      → IsObjectStep uuid old objects plain (passing left x) → IsObjectStep uuid old objects plain (passing left y)
+      → IsObjectStep uuid old objects plain (passing left (cond b x y))
+  either_step objects left true x y first second = first
+  either_step objects left false x y first second = second
 
-  release_window : (numbers : List ℕ) (left : Fuse) → (plain_after (events.Release numbers) (passing left plain)).window
-      ≡ plain.window
-  release_window numbers left =
-      let ready : PlainState = passing left plain in
-      let after : PlainState = record ready { pins = without_pins numbers ready.pins } in
-      same_either (are_pinned numbers ready.pins) after ready plain.window refl refl
+  same_step : (objects : Objects) (after : PlainState) → after.window ≡ plain.window → after.given_out ≡ plain.given_out
+      → after.removed ≡ plain.removed → IsObjectStep uuid old objects plain after
+  same_step objects after window given_out removed = stays (same_everywhere plain after window given_out removed)
 
-  seal_either : (objects : Objects) (b : Bool) (x y : PlainState)
-      → x.window ≡ entered (plain.window.last + 1) false plain.window
-      → y.window ≡ plain.window → IsWindowStep uuid old objects plain (cond b x y).window
-  seal_either objects true x y sealed same = seals sealed
-  seal_either objects false x y sealed same = stays same
+  look_step : (objects : Objects) (lba sectors : ℕ) (left : Fuse)
+      → IsObjectStep uuid old objects plain (left_by left (events.Look lba sectors))
+  look_step objects lba sectors left =
+      either_step objects (fuse_in new.log.commits.disk.budget) (may_transfer plain.geometry lba sectors) _ (passing left plain)
+      (same_step objects _ refl refl refl) (same_step objects _ refl refl refl)
 
-  seal_window : (objects : Objects) (left : Fuse)
-      → IsWindowStep uuid old objects plain (plain_after events.Seal (passing left plain)).window
-  seal_window objects left =
-      let ready : PlainState = passing left plain in
-      let object : StreamObject = record { content = Data; end = end_of_next ready } in
-      let after : PlainState = record ready {
-        objects = ready.objects ++ object ∷ [];
-        window = entered (ready.window.last + 1) false ready.window;
-      } in
-      seal_either objects (has_unsealed ready && not (is_busy ready)) after ready refl refl
+  release_step : (objects : Objects) (numbers : List ℕ) (left : Fuse)
+      → IsObjectStep uuid old objects plain (left_by left (events.Release numbers))
+  release_step objects numbers left =
+      either_step objects (fuse_in new.log.commits.disk.budget) (are_pinned numbers plain.pins) _ (passing left plain)
+      (same_step objects _ refl refl refl) (same_step objects _ refl refl refl)
 
-  take_window : (objects : Objects) → IsUploads old.objects.uploads → (lowest : Option ℕ)
+  seal_step : (objects : Objects) (left : Fuse) → IsObjectStep uuid old objects plain (left_by left events.Seal)
+  seal_step objects left =
+      either_step objects (fuse_in new.log.commits.disk.budget) (has_unsealed plain && not (is_busy plain)) _ (passing left plain)
+      (sealed_step uuid old objects plain _ false shows.valid refl refl refl) (same_step objects _ refl refl refl)
+
+  seal_checkpoint_step : (objects : Objects) (left : Fuse)
+      → IsObjectStep uuid old objects plain (left_by left events.SealCheckpoint)
+  seal_checkpoint_step objects left =
+      either_step objects (fuse_in new.log.commits.disk.budget) (is_busy plain) (passing left plain) _
+      (same_step objects _ refl refl refl) (sealed_step uuid old objects plain _ true shows.valid refl refl refl)
+
+  take_step : (objects : Objects) (left : Fuse) → IsUploads old.objects.uploads → (lowest : Option ℕ)
       → lowest_ready plain.window.objects ≡ lowest → Tells state old reply (reply_of_taken lowest)
-      → IsWindowStep uuid old objects plain (window_after_take lowest plain.window)
-  take_window objects order None is tells = stays refl
-  take_window objects order (Some n) is tells =
+      → IsObjectStep uuid old objects plain (record (left_by left events.TakeJob) {
+        window = window_after_take lowest plain.window;
+      })
+  take_step objects left order None is tells = same_step objects _ refl refl refl
+  take_step objects left order (Some n) is tells =
       let taken = tells_taken state old reply n tells in
       let job : JobState = taken.0 in
       let number = taken_number state old (Some n) job (subst (λ r. Tells state old r (reply_of_taken (Some n))) taken.1 tells) in
@@ -230,67 +193,103 @@ module _ {R : Type 0} (state : R → ReceiptState) (reply : Reply R) (old new : 
       ap below_open (sym shows.objects.window) ∙ frontier_below old.objects.uploads order in
       let last : old.objects.uploads.window.last ≡ plain.window.last =
       ap (λ (w : WindowState). w.last) shows.objects.window in
-      let object = job_is_object shows.data_at old.objects plain n job order shows.valid shows.alone shows.objects
+      let object = job_is_object shows.data_at old.objects plain n job order shows.valid shows.objects
       (omega (arith, within.0, below)) (omega (arith, within.1, last)) is_job in
-      begins n job.bytes refl open_ is_job.bytes
+      taken_step uuid old objects plain _ n job.bytes refl refl refl open_ is_job.bytes
       (subst (λ g. IsObjectOf (expected_of uuid g) plain n job.bytes) shows.objects.geometry object)
 
-  done_window : (objects : Objects) (job : JobState) (receipt : ReceiptState) (put : Option ℕ)
+  done_by : (objects : Objects) (left : Fuse) (job : JobState) (receipt : ReceiptState) (put : Option ℕ)
       → IsOfDonePut old job receipt put
       → found objects (numbered_name uuid job.name.number) ≡ Some job.bytes
-      → IsWindowStep uuid old objects plain (window_after_done put plain.window)
-  done_window objects job receipt None of there = stays refl
-  done_window objects job receipt (Some n) of there =
+      → IsObjectStep uuid old objects plain (left_by left (events.JobDone put))
+  done_by objects left job receipt None of there = same_step objects _ refl refl refl
+  done_by objects left job receipt (Some n) of there =
       let begun = begun_put_is old plain n job.bytes shows of.1 in
-      ends n job.bytes (ap (λ b. cond b (acknowledged n plain.window) plain.window) begun.1)
-      (started_open n plain.window.objects begun.1) begun.0.begun of.1.sealed
+      done_step uuid old objects plain _ n job.bytes shows.valid refl refl refl begun of.1.sealed
       (ap (λ k. found objects (numbered_name uuid k)) of.0 ∙ there)
 
-  failed_window : (objects : Objects) (job : JobState) (put : Option ℕ) → IsOfPut old job put
-      → IsWindowStep uuid old objects plain (window_after_failed put plain.window)
-  failed_window objects job None of = stays refl
-  failed_window objects job (Some n) of =
+  failed_by : (objects : Objects) (left : Fuse) (job : JobState) (put : Option ℕ) → IsOfPut old job put
+      → IsObjectStep uuid old objects plain (left_by left (events.JobFailed put))
+  failed_by objects left job None of = same_step objects _ refl refl refl
+  failed_by objects left job (Some n) of =
       let begun = begun_put_is old plain n job.bytes shows of.1 in
-      fails n (ap (λ b. cond b (marked n false plain.window) plain.window) begun.1)
+      failed_step uuid old objects plain _ n refl refl refl begun
+
+  take_remove_by : (objects : Objects) (left : Fuse) (out lowest : Option ℕ) → to_remove plain ≡ lowest
+      → IsObjectStep uuid old objects plain
+      (passing (fuse_in new.log.commits.disk.budget) (with_removal out lowest (passing left plain)))
+  take_remove_by objects left None (Some n) is = given_out_step uuid old objects plain _ n shows.valid refl refl refl is
+  take_remove_by objects left None None is = same_step objects _ refl refl refl
+  take_remove_by objects left (Some other) lowest is = same_step objects _ refl refl refl
+
+  remove_done_by : (objects : Objects) (left : Fuse) (number : ℕ) → found objects (numbered_name uuid number) ≡ None
+      → IsObjectStep uuid old objects plain (left_by left (events.RemoveDone number))
+  remove_done_by objects left number none =
+      either_step objects (fuse_in new.log.commits.disk.budget) (is_out number plain.removal) _ (passing left plain)
+      (removed_step uuid old objects plain _ number refl refl refl none) (same_step objects _ refl refl refl)
+
+  remove_failed_by : (objects : Objects) (left : Fuse) (number : ℕ)
+      → IsObjectStep uuid old objects plain (left_by left (events.RemoveFailed number))
+  remove_failed_by objects left number =
+      either_step objects (fuse_in new.log.commits.disk.budget) (is_out number plain.removal) _ (passing left plain)
+      (same_step objects _ refl refl refl) (same_step objects _ refl refl refl)
 
   -- ---- by the event
 
-  its_object : (name : ObjName) (bytes : List ℕ) (held : Option Objects) (objects : Objects)
-      → IfSome held (λ o. found o name ≡ Some bytes) → held ≡ Some objects → found objects name ≡ Some bytes
-  its_object name bytes held objects has is = subst (λ h. IfSome h (λ o. found o name ≡ Some bytes)) is has
+  told_of : (P : Objects → Type 0) (held : Option Objects) (objects : Objects) → IfSome held P → held ≡ Some objects → P objects
+  told_of P held objects has is = subst (λ h. IfSome h P) is has
 
   step_by : (event : Event R) → HasItsObject event old store → IsUploads old.objects.uploads
       → IsStep state event reply plain old new ⊎ IsNoStep state event reply plain old new
       → StepKeeps (entered_by_event event reply) plain old new store
   step_by (asks.Write lba body) object order by = entry_keeps (entries.Write lba body) by
   step_by (asks.Zero lba sectors) object order by = entry_keeps (entries.Zero lba sectors) by
-  step_by asks.Flush object order (inl s) = still_keeps asks.Flush events.Flush s s.asks refl refl
+  step_by asks.Flush object order (inl s) = still_keeps asks.Flush events.Flush s s.asks refl refl refl refl
   step_by asks.Flush object order (inr n) = none_keeps n.shows
   step_by (asks.Look lba sectors) object order (inl s) =
-      still_keeps (asks.Look lba sectors) (events.Look lba sectors) s s.asks refl (look_window lba sectors s.left)
+      quiet_keeps (asks.Look lba sectors) (events.Look lba sectors) s s.asks refl
+      (λ objects there. look_step objects lba sectors s.left)
   step_by (asks.Look lba sectors) object order (inr n) = none_keeps n.shows
   step_by (asks.Release plan) object order (inl s) =
-      still_keeps (asks.Release plan) (events.Release plan.objects) s s.asks refl (release_window plan.objects s.left)
+      quiet_keeps (asks.Release plan) (events.Release plan.objects) s s.asks refl
+      (λ objects there. release_step objects plan.objects s.left)
   step_by (asks.Release plan) object order (inr n) = none_keeps n.shows
   step_by asks.Seal object order (inl s) =
-      window_keeps asks.Seal events.Seal s s.asks refl (λ objects there. seal_window objects s.left)
+      quiet_keeps asks.Seal events.Seal s s.asks refl (λ objects there. seal_step objects s.left)
   step_by asks.Seal object order (inr n) = none_keeps n.shows
+  step_by asks.SealCheckpoint object order (inl s) =
+      quiet_keeps asks.SealCheckpoint events.SealCheckpoint s s.asks refl
+      (λ objects there. seal_checkpoint_step objects s.left)
+  step_by asks.SealCheckpoint object order (inr n) = none_keeps n.shows
   step_by asks.TakeJob object order (inl s) =
       let tells : Tells state old reply (reply_of_taken (lowest_ready plain.window.objects)) =
       subst (λ e. Tells state old reply (plain_reply (passing s.left plain) e)) s.asks s.tells in
-      window_keeps asks.TakeJob events.TakeJob s s.asks refl
-      (λ objects there. take_window objects order (lowest_ready plain.window.objects) refl tells)
+      quiet_keeps asks.TakeJob events.TakeJob s s.asks refl
+      (λ objects there. take_step objects s.left order (lowest_ready plain.window.objects) refl tells)
   step_by asks.TakeJob object order (inr n) = none_keeps n.shows
   step_by (asks.JobDone job receipt) object order (inl s) =
-      window_keeps (asks.JobDone job receipt) (events.JobDone s.asks.0) s s.asks.1 refl
-      (λ objects there. done_window objects job (state receipt) s.asks.0 s.asks.2
-      (its_object (numbered_name uuid job.name.number) job.bytes store.objects objects object there))
+      quiet_keeps (asks.JobDone job receipt) (events.JobDone s.asks.0) s s.asks.1 refl
+      (λ objects there. done_by objects s.left job (state receipt) s.asks.0 s.asks.2
+      (told_of (λ o. found o (numbered_name uuid job.name.number) ≡ Some job.bytes) store.objects objects object there))
   step_by (asks.JobDone job receipt) object order (inr n) = none_keeps n.shows
   step_by (asks.JobFailed job) object order (inl s) =
-      window_keeps (asks.JobFailed job) (events.JobFailed s.asks.0) s s.asks.1 refl
-      (λ objects there. failed_window objects job s.asks.0 s.asks.2)
+      quiet_keeps (asks.JobFailed job) (events.JobFailed s.asks.0) s s.asks.1 refl
+      (λ objects there. failed_by objects s.left job s.asks.0 s.asks.2)
   step_by (asks.JobFailed job) object order (inr n) = none_keeps n.shows
-  step_by asks.Status object order (inl s) = still_keeps asks.Status events.Status s s.asks refl refl
+  step_by asks.TakeRemove object order (inl s) =
+      quiet_keeps asks.TakeRemove events.TakeRemove s s.asks refl
+      (λ objects there. take_remove_by objects s.left plain.removal (to_remove plain) refl)
+  step_by asks.TakeRemove object order (inr n) = none_keeps n.shows
+  step_by (asks.RemoveDone number) object order (inl s) =
+      quiet_keeps (asks.RemoveDone number) (events.RemoveDone number) s s.asks refl
+      (λ objects there. remove_done_by objects s.left number
+      (told_of (λ o. found o (numbered_name uuid number) ≡ None) store.objects objects object there))
+  step_by (asks.RemoveDone number) object order (inr n) = none_keeps n.shows
+  step_by (asks.RemoveFailed receipt) object order (inl s) =
+      quiet_keeps (asks.RemoveFailed receipt) (events.RemoveFailed s.asks.0) s s.asks.1 refl
+      (λ objects there. remove_failed_by objects s.left s.asks.0)
+  step_by (asks.RemoveFailed receipt) object order (inr n) = none_keeps n.shows
+  step_by asks.Status object order (inl s) = still_keeps asks.Status events.Status s s.asks refl refl refl refl
   step_by asks.Status object order (inr n) = none_keeps n.shows
 
 -- ---- a store that tells what it has
@@ -318,8 +317,8 @@ put_at : (epoch : ℕ) (volume : VolumeState) (plain : PlainState) (job : JobSta
     → StoreStands volume.objects.uploads.uuid epoch plain volume.objects.uploads new
 put_at epoch volume plain job shows out named old new put stands =
     let n : ℕ = job.name.number in
-    let is = (begun_put_is volume plain n job.bytes shows out).0 in
-    put_stands_still volume.objects.uploads.uuid epoch n job.bytes plain volume.objects.uploads old new is.past is.within
+    let is = begun_put_is volume plain n job.bytes shows out in
+    put_stands_still volume.objects.uploads.uuid epoch n job.bytes plain volume.objects.uploads old new is.there
     is.begun out.sealed (subst (λ name. IsPut name job.bytes old new) named put) stands
 
 pub may_put_at : (epoch : ℕ) (volume : VolumeState) (plain : PlainState) (job : JobState) → Shows volume plain
@@ -344,6 +343,38 @@ put_leaves_at true epoch volume plain job shows out named old new left stands =
 put_leaves_at false epoch volume plain job shows out named old new put stands =
     put_at epoch volume plain job shows out named old new put stands
 
+-- the removal of an object that is out, done or not
+remove_at : (epoch : ℕ) (volume : VolumeState) (plain : PlainState) (n : ℕ) → Shows volume plain
+    → removal_out volume ≡ Some n
+    → (old new : Objects) → IsRemoved (numbered_name volume.objects.uploads.uuid n) old new
+    → StoreStands volume.objects.uploads.uuid epoch plain volume.objects.uploads old
+    → StoreStands volume.objects.uploads.uuid epoch plain volume.objects.uploads new
+remove_at epoch volume plain n shows out old new removed stands =
+    let given : has plain.given_out n ≡ true =
+    subst (λ r. IfSome r (λ number. has plain.given_out number ≡ true)) (sym shows.table.removal ∙ out) stands.out in
+    removal_stands_still volume.objects.uploads.uuid epoch n plain volume.objects.uploads old new
+    (given_state plain n shows.valid given) removed stands
+
+pub may_remove_at : (epoch : ℕ) (volume : VolumeState) (plain : PlainState) (n : ℕ) → Shows volume plain
+    → removal_out volume ≡ Some n
+    → (old new : Objects) → MayBeRemoved (numbered_name volume.objects.uploads.uuid n) old new
+    → StoreStands volume.objects.uploads.uuid epoch plain volume.objects.uploads old
+    → StoreStands volume.objects.uploads.uuid epoch plain volume.objects.uploads new
+may_remove_at epoch volume plain n shows out old new (inl same) stands =
+    subst (StoreStands volume.objects.uploads.uuid epoch plain volume.objects.uploads) (sym same) stands
+may_remove_at epoch volume plain n shows out old new (inr removed) stands =
+    remove_at epoch volume plain n shows out old new removed stands
+
+removal_leaves_at : (failed : Bool) (epoch : ℕ) (volume : VolumeState) (plain : PlainState) (n : ℕ) → Shows volume plain
+    → removal_out volume ≡ Some n
+    → (old new : Objects) → RemovalLeaves failed (numbered_name volume.objects.uploads.uuid n) old new
+    → StoreStands volume.objects.uploads.uuid epoch plain volume.objects.uploads old
+    → StoreStands volume.objects.uploads.uuid epoch plain volume.objects.uploads new
+removal_leaves_at true epoch volume plain n shows out old new left stands =
+    may_remove_at epoch volume plain n shows out old new left stands
+removal_leaves_at false epoch volume plain n shows out old new removed stands =
+    remove_at epoch volume plain n shows out old new removed stands
+
 -- an act in which the volume stays
 volume_stays : (old new : Moment) → new.volume ≡ old.volume
     → ((plain : PlainState) → Shows old.volume.volume plain → (epoch : ℕ) → HasStore epoch old plain
@@ -357,6 +388,20 @@ volume_stays old new same keeps plain shows = (
       (StoreStands v.volume.objects.uploads.uuid epoch plain v.volume.objects.uploads)) (sym same)
       (keeps plain shows epoch has),
 )
+
+leaves_by : (uuid : List ℕ) (epoch : ℕ) (added : List Entry) (plain after : PlainState) (volume : VolumeState)
+    (objects : Objects)
+    → GoesOn added plain after → LeavesObjects plain after → StoreStands uuid epoch plain volume.objects.uploads objects
+    → StepLeaves plain after
+leaves_by uuid epoch added plain after volume objects goes leaves stands =
+    let was = is_described uuid epoch plain volume.objects.uploads objects stands in
+    record {
+      geometry = ap (λ (p : PlainState). p.geometry) goes.opens;
+      blank = leaves.blank was.blank;
+      seals = leaves.seals was.seals;
+      out = leaves.out was.out;
+      objects = leaves.objects was.blank;
+    }
 
 step_keeps : {R : Type 0} (state : R → ReceiptState) (event : Event R) (reply : Reply R) (old new : Moment)
     → IsStepAct state event reply old new → KeepsStore (entered_by_event event reply) old new
@@ -374,8 +419,9 @@ step_keeps state event reply old new is plain shows =
           (ap (λ (s : StoreState). s.objects) is.store)
           (λ objects there stands.
           subst (λ u. StoreStands u epoch kept.after now.objects.uploads objects) (sym is.step.step.sizes.uuid)
-          (step_stands uuid epoch (entered_by_event event reply) plain kept.after before now objects shows kept.shows kept.goes
-          is.step.step.bytes stands (kept.window objects there))) has,
+          (step_stands uuid epoch plain kept.after before now objects shows kept.shows is.step.step.bytes stands
+          (leaves_by uuid epoch (entered_by_event event reply) plain kept.after before objects kept.goes kept.leaves stands)
+          (kept.step objects there))) has,
     )
 
 act_keeps : {R : Type 0} (state : R → ReceiptState) (act : Act R) (old new : Moment) → IsAct state act old new
@@ -386,6 +432,11 @@ act_keeps state (Puts job failed) old new is =
     some_then (PutLeaves failed job.name job.bytes) (StandAt epoch old plain)
     (put_leaves_at failed epoch old.volume.volume plain job shows is.out is.named) old.store.objects new.store.objects
     is.objects has)
+act_keeps state (Removes number failed) old new is =
+    volume_stays old new is.volume (λ plain shows epoch has.
+    some_then (RemovalLeaves failed (numbered_name old.volume.volume.objects.uploads.uuid number)) (StandAt epoch old plain)
+    (removal_leaves_at failed epoch old.volume.volume plain number shows is.out) old.store.objects new.store.objects is.objects
+    has)
 act_keeps state (Gets failed) old new is =
     volume_stays old new is.volume (λ plain shows epoch has.
     subst (λ o. IfSome o (StandAt epoch old plain)) (sym (ap (λ (s : StoreState). s.objects) is.store)) has)
@@ -420,11 +471,13 @@ made_keeps state added old new made =
 
 pub stops_keep_store : {R : Type 0} (state : R → ReceiptState) (act : Act R) (old new : Moment) (epoch : ℕ)
     (plain : PlainState) (objects left : Objects) → IsAct state act old new
-    → Shows old.volume.volume plain → old.store.objects ≡ Some objects → MayBeLeftInAct act objects left
+    → Shows old.volume.volume plain → old.store.objects ≡ Some objects → MayBeLeftInAct act old.volume.volume objects left
     → StandAt epoch old plain objects → StandAt epoch old plain left
 stops_keep_store state (Made event reply) old new epoch plain objects left is shows there same stands =
     subst (StandAt epoch old plain) (sym same) stands
 stops_keep_store state (Puts job failed) old new epoch plain objects left is shows there may stands =
     may_put_at epoch old.volume.volume plain job shows is.out is.named objects left may stands
+stops_keep_store state (Removes number failed) old new epoch plain objects left is shows there may stands =
+    may_remove_at epoch old.volume.volume plain number shows is.out objects left may stands
 stops_keep_store state (Gets failed) old new epoch plain objects left is shows there same stands =
     subst (StandAt epoch old plain) (sym same) stands

@@ -38,6 +38,10 @@ tells_entered state volume (told.Done n) count tells = let bad : ⊥ = cc in abs
 tells_entered state volume (told.NotDone job receipt) count tells = let bad : ⊥ = cc in absurd bad
 tells_entered state volume told.Returned count tells = let bad : ⊥ = cc in absurd bad
 tells_entered state volume (told.NotReturned job) count tells = let bad : ⊥ = cc in absurd bad
+tells_entered state volume (told.Removing receipt) count tells = let is = tells.0 in let bad : ⊥ = cc in absurd bad
+tells_entered state volume told.Removed count tells = let bad : ⊥ = cc in absurd bad
+tells_entered state volume told.GivenBack count tells = let bad : ⊥ = cc in absurd bad
+tells_entered state volume (told.NotGivenBack receipt) count tells = let bad : ⊥ = cc in absurd bad
 tells_entered state volume (told.Told a b c d) count tells = let bad : ⊥ = cc in absurd bad
 tells_entered state volume told.Range count tells = let bad : ⊥ = cc in absurd bad
 tells_entered state volume told.Nothing count tells = let bad : ⊥ = cc in absurd bad
@@ -68,6 +72,10 @@ tells_flushed state volume (told.Done n) count tells = let bad : ⊥ = cc in abs
 tells_flushed state volume (told.NotDone job receipt) count tells = let bad : ⊥ = cc in absurd bad
 tells_flushed state volume told.Returned count tells = let bad : ⊥ = cc in absurd bad
 tells_flushed state volume (told.NotReturned job) count tells = let bad : ⊥ = cc in absurd bad
+tells_flushed state volume (told.Removing receipt) count tells = let is = tells.0 in let bad : ⊥ = cc in absurd bad
+tells_flushed state volume told.Removed count tells = let bad : ⊥ = cc in absurd bad
+tells_flushed state volume told.GivenBack count tells = let bad : ⊥ = cc in absurd bad
+tells_flushed state volume (told.NotGivenBack receipt) count tells = let bad : ⊥ = cc in absurd bad
 tells_flushed state volume (told.Told a b c d) count tells = let bad : ⊥ = cc in absurd bad
 tells_flushed state volume told.Range count tells = let bad : ⊥ = cc in absurd bad
 tells_flushed state volume told.Nothing count tells = let bad : ⊥ = cc in absurd bad
@@ -98,6 +106,10 @@ tells_taken state volume (told.Done n) number tells = let bad : ⊥ = cc in absu
 tells_taken state volume (told.NotDone job receipt) number tells = let bad : ⊥ = cc in absurd bad
 tells_taken state volume told.Returned number tells = let bad : ⊥ = cc in absurd bad
 tells_taken state volume (told.NotReturned job) number tells = let bad : ⊥ = cc in absurd bad
+tells_taken state volume (told.Removing receipt) number tells = let is = tells.0 in let bad : ⊥ = cc in absurd bad
+tells_taken state volume told.Removed number tells = let bad : ⊥ = cc in absurd bad
+tells_taken state volume told.GivenBack number tells = let bad : ⊥ = cc in absurd bad
+tells_taken state volume (told.NotGivenBack receipt) number tells = let bad : ⊥ = cc in absurd bad
 tells_taken state volume (told.Told a b c d) number tells = let bad : ⊥ = cc in absurd bad
 tells_taken state volume told.Range number tells = let bad : ⊥ = cc in absurd bad
 tells_taken state volume told.Nothing number tells = let bad : ⊥ = cc in absurd bad
@@ -128,6 +140,10 @@ tells_sealed state volume (told.Done n) number tells = let bad : ⊥ = cc in abs
 tells_sealed state volume (told.NotDone job receipt) number tells = let bad : ⊥ = cc in absurd bad
 tells_sealed state volume told.Returned number tells = let bad : ⊥ = cc in absurd bad
 tells_sealed state volume (told.NotReturned job) number tells = let bad : ⊥ = cc in absurd bad
+tells_sealed state volume (told.Removing receipt) number tells = let is = tells.0 in let bad : ⊥ = cc in absurd bad
+tells_sealed state volume told.Removed number tells = let bad : ⊥ = cc in absurd bad
+tells_sealed state volume told.GivenBack number tells = let bad : ⊥ = cc in absurd bad
+tells_sealed state volume (told.NotGivenBack receipt) number tells = let bad : ⊥ = cc in absurd bad
 tells_sealed state volume (told.Told a b c d) number tells = let bad : ⊥ = cc in absurd bad
 tells_sealed state volume told.Range number tells = let bad : ⊥ = cc in absurd bad
 tells_sealed state volume told.Nothing number tells = let bad : ⊥ = cc in absurd bad
@@ -158,6 +174,10 @@ tells_planned state volume (told.Done n) read tells = let bad : ⊥ = cc in absu
 tells_planned state volume (told.NotDone job receipt) read tells = let bad : ⊥ = cc in absurd bad
 tells_planned state volume told.Returned read tells = let bad : ⊥ = cc in absurd bad
 tells_planned state volume (told.NotReturned job) read tells = let bad : ⊥ = cc in absurd bad
+tells_planned state volume (told.Removing receipt) read tells = let is = tells.0 in let bad : ⊥ = cc in absurd bad
+tells_planned state volume told.Removed read tells = let bad : ⊥ = cc in absurd bad
+tells_planned state volume told.GivenBack read tells = let bad : ⊥ = cc in absurd bad
+tells_planned state volume (told.NotGivenBack receipt) read tells = let bad : ⊥ = cc in absurd bad
 tells_planned state volume (told.Told a b c d) read tells = let bad : ⊥ = cc in absurd bad
 tells_planned state volume told.Range read tells = let bad : ⊥ = cc in absurd bad
 tells_planned state volume told.Nothing read tells = let bad : ⊥ = cc in absurd bad
@@ -185,6 +205,10 @@ tells_failed state volume (told.Done n) tells = let bad : ⊥ = cc in absurd bad
 tells_failed state volume (told.NotDone job receipt) tells = let bad : ⊥ = cc in absurd bad
 tells_failed state volume told.Returned tells = let bad : ⊥ = cc in absurd bad
 tells_failed state volume (told.NotReturned job) tells = let bad : ⊥ = cc in absurd bad
+tells_failed state volume (told.Removing receipt) tells = let is = tells.0 in let bad : ⊥ = cc in absurd bad
+tells_failed state volume told.Removed tells = let bad : ⊥ = cc in absurd bad
+tells_failed state volume told.GivenBack tells = let bad : ⊥ = cc in absurd bad
+tells_failed state volume (told.NotGivenBack receipt) tells = let bad : ⊥ = cc in absurd bad
 tells_failed state volume (told.Told a b c d) tells = let bad : ⊥ = cc in absurd bad
 tells_failed state volume told.Range tells = let bad : ⊥ = cc in absurd bad
 tells_failed state volume told.Nothing tells = let bad : ⊥ = cc in absurd bad
@@ -211,6 +235,10 @@ tells_no_fault state volume (told.Done n) plain tells other = refl
 tells_no_fault state volume (told.NotDone job receipt) plain tells other = refl
 tells_no_fault state volume told.Returned plain tells other = refl
 tells_no_fault state volume (told.NotReturned job) plain tells other = refl
+tells_no_fault state volume (told.Removing receipt) plain tells other = refl
+tells_no_fault state volume told.Removed plain tells other = refl
+tells_no_fault state volume told.GivenBack plain tells other = refl
+tells_no_fault state volume (told.NotGivenBack receipt) plain tells other = refl
 tells_no_fault state volume (told.Told a b c d) plain tells other = refl
 tells_no_fault state volume told.Range plain tells other = refl
 tells_no_fault state volume told.Nothing plain tells other = refl

@@ -1,13 +1,13 @@
 -- The objects on their way to the store, of which no put is under way between the calls of an owner.
-use Rattle.std.proofs.Common.{arith, ◌≡◌, ℕ, suc, ◌+◌, nat_eq, Bool, true, false, cond, ◌||◌, List, [], ◌∷◌, ◌++◌, length, refl}
-use Rattle.std.proofs.Common.{ap, inl, inr}
+use Rattle.std.proofs.Common.{arith, ◌≡◌, ℕ, suc, ◌+◌, ◌≤◌, nat_eq, nat_lt, Bool, true, false, cond, not, ◌&&◌, ◌||◌, List, []}
+use Rattle.std.proofs.Common.{◌∷◌, ◌++◌, length, refl, ◌∙◌, ap, inl, inr}
 use Rattle.std.specs.Prelude.{Some, None, option_map, find}
-use Rattle.std.specs.List.{All, list_any}
+use Rattle.std.specs.List.{list_any}
 use Rattle.std.proofs.Math.Bool.{or-true}
 use Rattle.std.proofs.lemmas.Bool.{cases_eq, eq-eqb, ne_eqb}
-use Rattle.std.proofs.lemmas.List.Elements.{All-head}
+use Rattle.std.proofs.lemmas.Bool.Decides.{nat_tests}
 use Rattle.upload_window.specs.declared.object.OpenObject.{OpenObject}
-use Rattle.upload_window.specs.Window.{has_number, is_ready, lowest_ready, is_started, with_started, without}
+use Rattle.upload_window.specs.Window.{Ascends, has_number, is_ready, lowest_ready, is_started, with_started, without}
 
 -- the put of some object is under way
 abbrev pub any_started : List OpenObject → Bool
@@ -24,19 +24,33 @@ pub none_started_first : (object : OpenObject) (objects : List OpenObject) → a
     → (object.is_started ≡ false) × (any_started objects ≡ false)
 none_started_first object objects none = either_false object.is_started (any_started objects) none
 
-ready_by : (object : OpenObject) (objects : List OpenObject) → object.is_started ≡ false → object.is_checkpoint ≡ false
-    → is_ready objects object ≡ true
-ready_by object objects not_started no_checkpoint = rw (not_started, no_checkpoint) refl
+-- none of those past a number has a lower one
+none_lower : (n low : ℕ) (objects : List OpenObject) (last : ℕ) → Ascends low objects last → n ≤ low
+    → list_any (λ (other : OpenObject). nat_lt other.number n) objects ≡ false
+none_lower n low [] last ascends within = refl
+none_lower n low (object ∷ objects) last ascends within =
+    let not_lower : nat_lt object.number n ≡ false = (let above = ascends.0 in grind (arith, nat_tests)) in
+    ap (λ b. b || list_any (λ (other : OpenObject). nat_lt other.number n) objects) not_lower
+    ∙ none_lower n object.number objects last ascends.1 (omega (arith, ascends.0, within))
 
--- so one is ready where none is a checkpoint, unless there is none
-pub none_is_ready : (objects : List OpenObject) → All (λ (object : OpenObject). object.is_checkpoint ≡ false) objects
-    → any_started objects ≡ false → lowest_ready objects ≡ None → objects ≡ []
-none_is_ready [] data_ none lowest = refl
-none_is_ready (object ∷ objects) data_ none lowest =
+ready_by : (started checkpoint lower : Bool) → started ≡ false → lower ≡ false
+    → (not started && (not checkpoint || not lower)) ≡ true
+ready_by started true lower not_started none = rw (not_started, none) refl
+ready_by started false lower not_started none = rw not_started refl
+
+-- so the first is ready, unless there is none
+pub none_is_ready : (low : ℕ) (objects : List OpenObject) (last : ℕ) → Ascends low objects last → any_started objects ≡ false
+    → lowest_ready objects ≡ None → objects ≡ []
+none_is_ready low [] last ascends none lowest = refl
+none_is_ready low (object ∷ objects) last ascends none lowest =
     let first = none_started_first object objects none in
+    let own : nat_lt object.number object.number ≡ false = grind (arith, nat_tests) in
+    let lower : list_any (λ (other : OpenObject). nat_lt other.number object.number) (object ∷ objects) ≡ false =
+    ap (λ b. b || list_any (λ (other : OpenObject). nat_lt other.number object.number) objects) own
+    ∙ none_lower object.number object.number objects last ascends.1 (omega arith) in
     let ready : is_ready (object ∷ objects) object ≡ true =
-    ready_by object (object ∷ objects) first.0
-    (All-head (λ (o : OpenObject). o.is_checkpoint ≡ false) object objects data_) in
+    ready_by object.is_started object.is_checkpoint
+    (list_any (λ (other : OpenObject). nat_lt other.number object.number) (object ∷ objects)) first.0 lower in
     let found = ap (λ (b : Bool). option_map (λ (o : OpenObject). o.number)
     (cond b (Some object) (find (is_ready (object ∷ objects)) objects))) ready in
     let bad : ⊥ = cc in

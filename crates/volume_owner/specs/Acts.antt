@@ -1,11 +1,12 @@
--- Contract: what a call of an owner is made of: steps of its volume, puts of its objects into the store, and gets.
-use Rattle.std.specs.Prelude.{◌≡◌, ℕ, Bool, true, false, IfSome, Some, List, [], ◌∷◌, flat_map}
+-- Contract: what a call of an owner is made of: steps of its volume, puts of its objects into the store, their removals, and
+-- gets.
+use Rattle.std.specs.Prelude.{◌≡◌, ℕ, Bool, true, false, IfSome, Some, None, List, [], ◌∷◌, flat_map}
 use Rattle.lsvd_base.specs.declared.entry.Entry.{Entry}
 use Rattle.lsvd_base.specs.declared.entry.Entry.TheVariants as entries
 use Rattle.lsvd_fault.specs.Faults.{Counts}
 use Rattle.lsvd_names.specs.declared.name.ObjName.{ObjName}
-use Rattle.lsvd_objstore.specs.Objects.{Objects, found, IsPut, MayBePut}
-use Rattle.lsvd_objstore.specs.Store.{StoreState, ReceiptState, Put, IsAskedOnce, Becomes, OnlyCounts}
+use Rattle.lsvd_objstore.specs.Objects.{Objects, found, IsPut, MayBePut, IsRemoved, MayBeRemoved}
+use Rattle.lsvd_objstore.specs.Store.{StoreState, ReceiptState, Put, Remove, IsAskedOnce, Becomes, OnlyCounts}
 use Rattle.object_uploads.specs.State.{JobState}
 use Rattle.vol_core.specs.declared.event.Event.{Event}
 use Rattle.vol_core.specs.declared.event.Event.TheVariants as events
@@ -13,7 +14,7 @@ use Rattle.vol_core.specs.declared.reply.Reply.{Reply}
 use Rattle.vol_core.specs.declared.reply.Reply.TheVariants as told
 use Rattle.vol_core.specs.Volume.{VolumeState, SteppedVolume}
 use Rattle.vol_core.specs.Step.{CountedStep}
-use Rattle.vol_core.specs.View.{IsPutOutIn, object_name_in}
+use Rattle.vol_core.specs.View.{IsPutOutIn, object_name_in, removal_out}
 
 -- ---- moments
 
@@ -28,11 +29,12 @@ moment_of volume store = record { volume = volume; store = store }
 
 -- ---- acts
 
--- An act of a call: an event of the volume, with its reply; the put of a job's object; or the gets of a read. Those of the store
--- tell whether one of its calls failed.
+-- An act of a call: an event of the volume, with its reply; the put of a job's object; the removal of an object; or the gets of a
+-- read. Those of the store tell whether one of its calls failed.
 pub data Act (R : Type 0) : Type 0 where
   Made : (event : Event R) → (reply : Reply R) → Act R
   Puts : (job : JobState) → (failed : Bool) → Act R
+  Removes : (number : ℕ) → (failed : Bool) → Act R
   Gets : (failed : Bool) → Act R
 
 -- an entry is entered where the reply tells that
@@ -50,13 +52,17 @@ entered_by_event event reply = []
 abbrev pub entered_by_act : {R : Type 0} → Act R → List Entry
 entered_by_act (Made event reply) = entered_by_event event reply
 entered_by_act (Puts job failed) = []
+entered_by_act (Removes number failed) = []
 entered_by_act (Gets failed) = []
 
--- the volume is told that a put is done only where the store has the object, where it tells what it has
+-- the volume is told that a put is done only where the store has the object, and that a removal is only where it has not, where
+-- it tells what it has
 abbrev pub HasItsObject : {R : Type 0} → Event R → VolumeState → StoreState → Type 0
 HasItsObject (events.JobDone job receipt) volume store =
     IfSome store.objects (λ objects.
     found objects (object_name_in volume job.name.number) ≡ Some job.bytes)
+HasItsObject (events.RemoveDone number) volume store =
+    IfSome store.objects (λ objects. found objects (object_name_in volume number) ≡ None)
 HasItsObject event volume store = Unit {0}
 
 -- a step of the volume, in which the store stays
@@ -79,6 +85,19 @@ pub record IsPutAct (job : JobState) (failed : Bool) (old new : Moment) : Type 0
   pub asked : IsAskedOnce (Put job.name job.bytes) old.store.asked new.store.asked
   pub faults : Counts failed old.store.faults new.store.faults
 
+-- what a removal leaves of the objects: no object of the name, and where it failed perhaps what was there
+abbrev pub RemovalLeaves : (failed : Bool) → ObjName → Objects → Objects → Type 0
+RemovalLeaves false name old new = IsRemoved name old new
+RemovalLeaves true name old new = MayBeRemoved name old new
+
+-- the removal of a volume's own object that is out, in which the volume stays
+pub record IsRemoveAct (number : ℕ) (failed : Bool) (old new : Moment) : Type 0 where
+  pub volume : new.volume ≡ old.volume
+  pub out : removal_out old.volume.volume ≡ Some number
+  pub objects : Becomes (RemovalLeaves failed (object_name_in old.volume.volume number)) old.store.objects new.store.objects
+  pub asked : IsAskedOnce (Remove (object_name_in old.volume.volume number)) old.store.asked new.store.asked
+  pub faults : Counts failed old.store.faults new.store.faults
+
 -- gets, in which the volume stays, and what the store holds
 pub record IsGetAct (failed : Bool) (old new : Moment) : Type 0 where
   pub volume : new.volume ≡ old.volume
@@ -89,6 +108,7 @@ pub record IsGetAct (failed : Bool) (old new : Moment) : Type 0 where
 abbrev pub IsAct : {R : Type 0} → (R → ReceiptState) → Act R → Moment → Moment → Type 0
 IsAct state (Made event reply) old new = IsStepAct state event reply old new
 IsAct state (Puts job failed) old new = IsPutAct job failed old new
+IsAct state (Removes number failed) old new = IsRemoveAct number failed old new
 IsAct state (Gets failed) old new = IsGetAct failed old new
 
 -- ---- one after the other
@@ -113,8 +133,10 @@ pub record MakesStep {R : Type 0} (state : R → ReceiptState) (event : Event R)
 
 -- ---- stops
 
--- what a stop inside an act leaves of the objects: a put that is cut off leaves what one may leave that failed
-abbrev pub MayBeLeftInAct : {R : Type 0} → Act R → (old left : Objects) → Type 0
-MayBeLeftInAct (Made event reply) old left = left ≡ old
-MayBeLeftInAct (Puts job failed) old left = MayBePut job.name job.bytes old left
-MayBeLeftInAct (Gets failed) old left = left ≡ old
+-- what a stop inside an act of a volume leaves of the objects: a put or a removal that is cut off leaves what one may leave that
+-- failed
+abbrev pub MayBeLeftInAct : {R : Type 0} → Act R → VolumeState → (old left : Objects) → Type 0
+MayBeLeftInAct (Made event reply) volume old left = left ≡ old
+MayBeLeftInAct (Puts job failed) volume old left = MayBePut job.name job.bytes old left
+MayBeLeftInAct (Removes number failed) volume old left = MayBeRemoved (object_name_in volume number) old left
+MayBeLeftInAct (Gets failed) volume old left = left ≡ old

@@ -87,9 +87,10 @@ pub record MakesSteps (most : ℕ) (added : List Entry) (old new : SteppedVolume
   pub own : (owner : CacheOwner) → HasOwnCommits owner old.volume → HasOwnCommits owner new.volume
   pub steps : new.steps ≤ old.steps + most
 
--- A call is made of acts: of steps of a volume, of puts of its objects into a store, each of which is out, and of gets; the
--- volume is told that a put is done only where the store has the object. So the store has changed under the names of the volume's
--- own numbered objects alone. One call of the disk or of the store failed in it, or none did.
+-- A call is made of acts: of steps of a volume, of puts of its objects into a store and removals of them, each of which is out,
+-- and of gets; the volume is told that a put is done only where the store has the object, and that a removal is only where it has
+-- not. So the store has changed under the names of the volume's own numbered objects alone. One call of the disk or of the store
+-- failed in it, or none did.
 pub record IsCall {R : Type 0} (state : R → ReceiptState) (most : ℕ) (added : List Entry) (failed : Bool)
     (old new : SteppedVolume) (old_store new_store : StoreState) : Type 0 where
   pub acts : IsMadeOfActs state added (moment_of old old_store) (moment_of new new_store)

@@ -1,11 +1,11 @@
 -- For this crate's own clauses: what an attempt to enter an entry answers, and what a help does.
-use Rattle.std.specs.Prelude.{◌≡◌, ℕ, ◌+◌, ◌*◌, ◌^◌, ◌<◌, Bool, true, false, List, [], ◌∷◌, length}
+use Rattle.std.specs.Prelude.{◌≡◌, ℕ, ◌+◌, ◌*◌, ◌^◌, ◌<◌, ◌≤◌, Bool, true, false, None, List, [], ◌∷◌, length}
 use Rattle.std.specs.List.{list_any}
 use Rattle.lsvd_base.specs.declared.entry.Entry.{Entry}
 use Rattle.upload_window.specs.Window.{with_started}
 use Rattle.object_uploads.specs.State.{JobState}
 use Rattle.vol_core.specs.Volume.{VolumeState}
-use Rattle.vol_core.specs.View.{IsPutOutIn, object_name_in, objects_on_way, pinned_objects, unsealed_entries}
+use Rattle.vol_core.specs.View.{IsPutOutIn, object_name_in, objects_on_way, unsealed_entries, HasNoPins, removal_out}
 use Rattle.volume_owner.specs.declared.replies.Attempt.{Attempt}
 use Rattle.volume_owner.specs.declared.replies.Attempt.TheVariants.{Entered, Again, Failed}
 
@@ -29,7 +29,9 @@ pub record IsTaken (job : JobState) (volume : VolumeState) : Type 0 where
   pub named : job.name ≡ object_name_in volume job.name.number
   pub alone : list_any (λ object. object.is_started) (with_started job.name.number false (objects_on_way volume))
       ≡ false
-  pub plans : pinned_objects volume ≡ []
+  pub plans : HasNoPins volume
+  pub none_out : removal_out volume ≡ None
+  pub few : length (objects_on_way volume) ≤ 16
 
 -- what an attempt entered
 abbrev pub entered_by : Entry → Attempt → List Entry

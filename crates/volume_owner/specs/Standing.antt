@@ -38,5 +38,5 @@ ActsKeepStore {R} state =
 abbrev pub StopsKeepStore : {R : Type 0} → (R → ReceiptState) → Type 0
 StopsKeepStore {R} state =
     (act : Act R) (old new : Moment) (epoch : ℕ) (plain : PlainState) (objects left : Objects) → IsAct state act old new
-    → Shows old.volume.volume plain → old.store.objects ≡ Some objects → MayBeLeftInAct act objects left
+    → Shows old.volume.volume plain → old.store.objects ≡ Some objects → MayBeLeftInAct act old.volume.volume objects left
     → StandAt epoch old plain objects → StandAt epoch old plain left

@@ -1,4 +1,4 @@
-ghost use Rattle.std.specs.Prelude.{◌≡◌, ℕ, List, [], false};
+ghost use Rattle.std.specs.Prelude.{◌≡◌, ℕ, ◌≤◌, None, List, [], false, length};
 ghost use Rattle.std.specs.List.{list_any};
 ghost use Rattle.lsvd_base.specs.declared.geometry.Geometry.{Geometry};
 ghost use Rattle.plain_disk.specs.State.{PlainState};
@@ -10,12 +10,12 @@ ghost use Rattle.volume_owner.specs.Standing.{ActsKeepStore, StopsKeepStore};
 
 use lsvd_objstore::Receipt;
 
-/// A law: a volume may have an owner where no put is under way and no plan is out in a plain volume that it
-/// shows. So it is of one that was just created.
+/// A law: a volume may have an owner where no put is under way, at most 16 objects are on their way, no plan
+/// is out and no removal in a plain volume that it shows. So it is of one that was just created.
 pub fn a_new_volume_is_idle()
     ensures shown { (volume : VolumeState) (plain : PlainState) → Shows volume plain
-        → list_any (λ object. object.is_started) plain.window.objects ≡ false → plain.pins ≡ []
-        → IsIdle volume }
+        → list_any (λ object. object.is_started) plain.window.objects ≡ false
+        → length plain.window.objects ≤ 16 → plain.pins ≡ [] → plain.removal ≡ None → IsIdle volume }
     ensures created { (uuid : List ℕ) (geometry : Geometry) (stepped : SteppedVolume)
         → IsCreated uuid geometry stepped → IsIdle stepped.volume }
 {}

@@ -18,6 +18,9 @@ pub enum Answer {
     /// The frontier.
     Done(u64),
     Returned,
+    Removing(u64),
+    Removed,
+    GivenBack,
     Told {
         writes: u64,
         sealed: u64,

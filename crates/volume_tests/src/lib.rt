@@ -4,10 +4,11 @@
 //! what was answered, under a heading for each topic. In short runs the plain volume stands beside the real
 //! one, and where they answer otherwise both answers are printed. A step for which memory ran out is made
 //! once more, so that each allocation may be let fail in turn (`scripts/short_memory`).
-//! It stands on `test_output`, `vol_core`, `volume_owner`, `plain_volume` and the crates below them.
+//! It stands on `test_output`, `vol_recover`, `volume_owner`, `plain_volume` and the crates below them.
 #![tactic(auto)]
 
 mod answer;
+mod creating;
 mod fullness;
 mod owned;
 mod plain;

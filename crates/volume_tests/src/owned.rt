@@ -1,15 +1,14 @@
 ghost use Rattle.std.specs.Prelude.{◌≡◌, ◌%◌, length, IfOk};
 
 use crate::answer::filled_with;
+use crate::creating::created;
 use crate::step::Byte;
 use lsvd_base::{Body, Geometry};
 use lsvd_device::MemDisk;
 use lsvd_objstore::{FaultStore, MemReceipt, MemStore, PlannedFault, Store};
 use std::alloc::{AllocError, Global};
 use test_output::{TestError, head};
-use uuid::Uuid;
-use vol_core::create;
-use volume_owner::{Owner, OwnerError, a_new_volume_is_idle};
+use volume_owner::{Owner, OwnerError};
 
 // The volume: a batch has two writes of eight sectors, and the log four.
 const GEOMETRY: Geometry = Geometry {
@@ -18,9 +17,6 @@ const GEOMETRY: Geometry = Geometry {
     batch: 16,
     log: 40,
 };
-
-// The bytes of its device.
-const SIZE: u64 = 4_096 + 512 * 40;
 
 // No run here makes as many steps.
 const MOST: u64 = 1_000;
@@ -48,23 +44,13 @@ const FAULTS: [PlannedFault; 3] = [
 /// Shows an owner whose batch and log are full time and again, over a store of which calls fail.
 pub fn tell_owner(rt: &HostRuntime) -> Result<(), TestError> {
     head(rt, "# An owner of a small log, over a store that fails")?;
-    let mut store = FaultStore::new(rt.alloc(), MemStore::new(rt.alloc()), &FAULTS)?;
-    let mut owner = created(rt.alloc())?;
+    let mut store = MemStore::new(rt.alloc());
+    let mut owner = Owner::new(created(rt.alloc(), &mut store, GEOMETRY)?);
+    let mut store = FaultStore::new(rt.alloc(), store, &FAULTS)?;
     let told = tell_requests(rt, &mut owner, &mut store);
     drop(owner);
     drop(store);
     told
-}
-
-fn created(alloc: Global) -> Result<MemOwner, TestError> {
-    let mut disk = MemDisk::new(alloc, SIZE)?;
-    disk.reserve(200, 100_000)?;
-    let volume = match create(alloc, disk, Uuid::from_bytes([1; 16]), GEOMETRY) {
-        Ok(volume) => volume,
-        Err((_, failed)) => return Err(failed)?,
-    };
-    a_new_volume_is_idle();
-    Ok(Owner::new(volume))
 }
 
 fn tell_requests(
@@ -130,7 +116,8 @@ fn tell_drains(
 
 fn tell_drain(rt: &HostRuntime, owner: &mut MemOwner, store: &mut Faulty) -> Result<(), TestError> {
     let (count, objects) = drain(rt.alloc(), owner, store)?;
-    println!(rt; "drained: {count} entries in {objects} objects").map_err(TestError::from)
+    println!(rt; "drained: {count} entries, {objects} objects in the store")?;
+    Ok(())
 }
 
 // How many entries the history has after a drain, and how many objects the store.

@@ -99,6 +99,10 @@ fn event_of(alloc: Global, step: Step) -> Result<Option<PlainEvent>, AllocError>
         Step::Take => Some(PlainEvent::TakeJob),
         Step::Done(number) => Some(PlainEvent::JobDone { job: Some(number) }),
         Step::Failed(number) => Some(PlainEvent::JobFailed { job: Some(number) }),
+        Step::Checkpoint => Some(PlainEvent::SealCheckpoint),
+        Step::Remove => Some(PlainEvent::TakeRemove),
+        Step::Removed(number) => Some(PlainEvent::RemoveDone { number }),
+        Step::NotRemoved(number) => Some(PlainEvent::RemoveFailed { number }),
         Step::Status => Some(PlainEvent::Status),
         _ => None,
     })
@@ -145,6 +149,9 @@ fn answer_of(reply: &PlainReply) -> Answer {
         PlainReply::Taken(number) => Answer::Taken(*number),
         PlainReply::Done(frontier) => Answer::Done(*frontier),
         PlainReply::Returned => Answer::Returned,
+        PlainReply::Removing(number) => Answer::Removing(*number),
+        PlainReply::Removed => Answer::Removed,
+        PlainReply::GivenBack => Answer::GivenBack,
         PlainReply::Told {
             writes,
             sealed,

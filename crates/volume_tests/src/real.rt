@@ -2,17 +2,16 @@ ghost use Rattle.lsvd_objstore.specs.Memory.{told_receipt};
 ghost use Rattle.vol_core.specs.Step.{HasItsReceipt};
 
 use crate::answer::{Answer, Objects, Sectors};
+use crate::creating::{MemVolume, created};
 use crate::step::{Byte, Step};
 use batcher::Full;
 use lsvd_base::{Body, Entry, Geometry};
-use lsvd_device::MemDisk;
-use lsvd_objstore::{MemReceipt, MemStore, Store};
+use lsvd_objstore::{MemReceipt, MemStore, Receipt, Store};
 use object_uploads::Job;
 use read_plan::Plan;
 use std::alloc::Global;
 use test_output::TestError;
-use uuid::Uuid;
-use vol_core::{EntryRefusal, Event, Reply, Volume, create};
+use vol_core::{EntryRefusal, Event, Reply};
 
 /// The volume of the rows.
 pub const GEOMETRY: Geometry = Geometry {
@@ -22,32 +21,29 @@ pub const GEOMETRY: Geometry = Geometry {
     log: 64,
 };
 
-// The bytes of its device.
-const SIZE: u64 = 4_096 + 512 * 64;
-
 // No run here makes as many steps.
 const MOST: u64 = 1_000;
 
-const UUID: [u8; 16] = [1; 16];
-
-type MemVolume = Volume<MemDisk, MemReceipt>;
-
-/// The real volume with its store, the puts that are out, and the read that is planned.
+/// The real volume with its store, the puts and the removal that are out, and the read that is planned.
 #[derive(Drop)]
 pub struct Real {
     volume: MemVolume,
     store: MemStore,
     jobs: Vec<Job>,
+    removal: Option<MemReceipt>,
     plan: Option<Plan<MemReceipt>>,
 }
 
 impl Real {
     /// A new one.
     pub fn new(alloc: Global) -> Result<Real, TestError> {
+        let mut store = MemStore::new(alloc);
+        let volume = created(alloc, &mut store, GEOMETRY)?;
         Ok(Real {
-            volume: created(alloc)?,
-            store: MemStore::new(alloc),
+            volume,
+            store,
             jobs: Vec::new(alloc),
+            removal: None,
             plan: None,
         })
     }
@@ -72,6 +68,9 @@ impl Real {
             Step::Take => take(&mut self.volume, &mut self.jobs),
             Step::Done(number) => self.done(alloc, number),
             Step::Failed(number) => failed(&mut self.volume, &mut self.jobs, number),
+            Step::Remove => remove(&mut self.volume, &mut self.removal),
+            Step::Removed(number) => self.removed(number),
+            Step::NotRemoved(number) => self.not_removed(number),
             _ => make(&mut self.volume, made),
         }
     }
@@ -92,12 +91,25 @@ impl Real {
             None => Ok(Answer::NotAsked),
         }
     }
-}
 
-fn created(alloc: Global) -> Result<MemVolume, TestError> {
-    let mut disk = MemDisk::new(alloc, SIZE)?;
-    disk.reserve(200, 100_000)?;
-    Ok(create(alloc, disk, Uuid::from_bytes(UUID), GEOMETRY).map_err(|(_, failed)| failed)?)
+    fn removed(&mut self, number: u64) -> Result<Answer, TestError> {
+        match receipt_of(&mut self.removal, number) {
+            Some(receipt) => {
+                let outcome = self.store.remove(&receipt);
+                drop(receipt);
+                outcome?;
+                answered(&mut self.volume, Event::RemoveDone { number })
+            }
+            None => Ok(Answer::NotAsked),
+        }
+    }
+
+    fn not_removed(&mut self, number: u64) -> Result<Answer, TestError> {
+        match receipt_of(&mut self.removal, number) {
+            Some(receipt) => answered(&mut self.volume, Event::RemoveFailed(receipt)),
+            None => Ok(Answer::NotAsked),
+        }
+    }
 }
 
 fn step(volume: &mut MemVolume, event: Event<MemReceipt>) -> Result<Reply<MemReceipt>, TestError>
@@ -115,6 +127,7 @@ fn make(volume: &mut MemVolume, made: Step) -> Result<Answer, TestError> {
         Step::Zero(lba, sectors) => answered(volume, Event::Zero { lba, sectors }),
         Step::Flush => answered(volume, Event::Flush),
         Step::Seal => answered(volume, Event::Seal),
+        Step::Checkpoint => answered(volume, Event::SealCheckpoint),
         Step::Status => answered(volume, Event::Status),
         _ => Ok(Answer::NotAsked),
     }
@@ -227,6 +240,28 @@ fn failed(volume: &mut MemVolume, jobs: &mut Vec<Job>, number: u64) -> Result<An
     }
 }
 
+// Begins a removal, which is kept until it is done.
+fn remove(volume: &mut MemVolume, removal: &mut Option<MemReceipt>) -> Result<Answer, TestError> {
+    match step(volume, Event::TakeRemove)? {
+        Reply::Removing(receipt) => {
+            let number = receipt.name().number;
+            *removal = Some(receipt);
+            Ok(Answer::Removing(number))
+        }
+        reply => Ok(answered_by(reply)),
+    }
+}
+
+// The receipt of an object, where its removal is out.
+fn receipt_of(removal: &mut Option<MemReceipt>, number: u64) -> Option<MemReceipt> {
+    let receipt = removal.take()?;
+    if receipt.name().number == number {
+        return Some(receipt);
+    }
+    *removal = Some(receipt);
+    None
+}
+
 // What a reply says.
 fn answer_of(reply: &Reply<MemReceipt>) -> Answer {
     match reply {
@@ -237,6 +272,8 @@ fn answer_of(reply: &Reply<MemReceipt>) -> Answer {
         Reply::Sealed(number) => Answer::Sealed(*number),
         Reply::Done(frontier) => Answer::Done(*frontier),
         Reply::Returned => Answer::Returned,
+        Reply::Removed => Answer::Removed,
+        Reply::GivenBack => Answer::GivenBack,
         Reply::Told {
             writes,
             sealed,

@@ -1,5 +1,6 @@
 use crate::step::Step::{
-    Done, Failed, Fetch, Flush, Look, Read, Release, Seal, Status, Take, Write, Zero,
+    Checkpoint, Done, Failed, Fetch, Flush, Look, NotRemoved, Read, Release, Remove, Removed, Seal,
+    Status, Take, Write, Zero,
 };
 use crate::step::{Byte, Row, Step};
 
@@ -91,6 +92,67 @@ pub const ROWS: &[Row] = &[
             Read(0, 2),
         ],
     },
+    Row {
+        name: "An object is removed once a later checkpoint is acknowledged, which does not map it",
+        before: TWO_WRITES,
+        steps: &[
+            Remove,
+            Checkpoint,
+            Checkpoint,
+            Remove,
+            Take,
+            Status,
+            Done(4),
+            Remove,
+            Remove,
+            NotRemoved(1),
+            Remove,
+            Removed(1),
+            Remove,
+            Removed(2),
+            Remove,
+            Take,
+            Done(5),
+            Remove,
+            Removed(4),
+            Read(0, 1),
+            Status,
+        ],
+    },
+    Row {
+        name: "An object is removed once no read has it planned",
+        before: &[Write(0, 1, A), Seal, Take, Done(2)],
+        steps: &[
+            Look(0, 1),
+            Write(0, 1, B),
+            Seal,
+            Checkpoint,
+            Take,
+            Done(3),
+            Take,
+            Done(4),
+            Remove,
+            Removed(1),
+            Remove,
+            Fetch,
+            Release,
+            Remove,
+            Removed(2),
+            Read(0, 1),
+        ],
+    },
+];
+
+// Two objects, of which the second has all sectors of the first.
+const TWO_WRITES: &[Step] = &[
+    Write(0, 1, A),
+    Seal,
+    Take,
+    Done(2),
+    Write(0, 1, B),
+    Seal,
+    Take,
+    Done(3),
 ];
 
 /// Two objects, of which the second is acknowledged first.

@@ -21,6 +21,14 @@ pub enum Step {
     Done(u64),
     /// The put of an object failed.
     Failed(u64),
+    /// Seals a checkpoint.
+    Checkpoint,
+    /// Begins the removal of an object.
+    Remove,
+    /// The removal of an object is done.
+    Removed(u64),
+    /// The removal of an object failed.
+    NotRemoved(u64),
     Status,
     /// Asks how many objects are on their way to the store.
     Open,

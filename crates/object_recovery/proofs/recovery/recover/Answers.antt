@@ -22,54 +22,32 @@ use Rattle.object_recovery.proofs.recovery.recover.Goals as goal
 
 pub newest_checkpoint-requires : goal.newest_checkpoint-requires
 newest_checkpoint-requires g c =
-    let are = subst (AreNamesOf c.args.uuid) (sym c.as_slice.ensures) c.in_ok-names.ensures.names in
+    let are = subst (AreNamesOf c.args.uuid) (sym c.as_slice.ensures) c.requires.names in
     λ name listed. (are.each name listed).0
-
--- ---- the names were not listed
-
-pub returns-in_err-names : goal.returns-in_err-names
-returns-in_err-names g c =
-    let old = g.S.Store.state c.args.store.now in
-    let new = g.S.Store.state c.list.new.self in
-    let Tells : Type 0 = TellsBytes g.S.Receipt.Receipt.state in
-    let error = c.in_err-names.field-0.0 in
-    passed_as (RecoverOf Tells c.args.uuid c.args.geometry old new) c.from_residual.result (of_store error)
-    c.from_residual.ensures.1
-    (record {
-      found = tt;
-      refused = λ tells.
-          told_no_answer old.objects (expected_of c.args.uuid c.args.geometry) (of_store error) (of_store_is_no_answer error);
-      unchanged = c.in_err-names.ensures.unchanged;
-      faults = store_counts (List ObjName) error old.faults new.faults c.in_err-names.ensures.count;
-    })
 
 -- ---- no checkpoint was found
 
 pub returns-in_err-base : goal.returns-in_err-base
 returns-in_err-base g c =
     let old = g.S.Store.state c.args.store.now in
-    let middle = g.S.Store.state c.list.new.self in
     let new = g.S.Store.state c.newest_checkpoint.new.store in
     let uuid = c.args.uuid in
     let geometry = c.args.geometry in
     let Tells : Type 0 = TellsBytes g.S.Receipt.Receipt.state in
     let is_uuid : IsUuid uuid = c.a_uuid_has_sixteen_bytes.ensures in
-    let listing = c.in_ok-names.ensures in
-    let same = same_store old middle listing.unchanged listing.count in
     let names = c.as_slice.result.now in
-    let lists = subst (λ list. IfSome old.objects (λ objects. Lists uuid objects list)) (sym c.as_slice.ensures) listing.listed in
+    let lists = subst (λ list. IfSome old.objects (λ objects. Lists uuid objects list)) (sym c.as_slice.ensures)
+    c.requires.listed in
     let error = c.in_err-base.field-0.0 in
     let failed = c.in_err-base.ensures in
-    passed_as (RecoverOf Tells uuid geometry old new) c.from_residual-in_err-base.result error
-    c.from_residual-in_err-base.ensures.1
+    passed_as (RecoverOf Tells uuid geometry old new) c.from_residual.result error c.from_residual.ensures.1
     (record {
       found = tt;
       refused = λ tells.
           newest_refused old.objects uuid geometry names error is_uuid lists failed.answer
-          (λ is. subst (λ (s : StoreState). IfSome s.objects (HasNoneAmong geometry names)) same
-          (failed.none tells (error_of error errors.NoCheckpoint is)));
-      unchanged = subst (λ (s : StoreState). OnlyCounts s new) same failed.unchanged;
-      faults = subst (λ n. Counts (is_store_fault error) n new.faults) listing.count failed.faults;
+          (λ is. failed.none tells (error_of error errors.NoCheckpoint is));
+      unchanged = failed.unchanged;
+      faults = failed.faults;
     })
 
 -- ---- the newest checkpoint was found
@@ -82,33 +60,25 @@ begun g c tells names named =
     let told = (g.S.Store.state c.args.store.now).objects in
     let uuid = c.args.uuid in
     let geometry = c.args.geometry in
-    let listing = c.in_ok-names.ensures in
-    let all = c.as_slice.result.now in
     let is_uuid : IsUuid uuid = c.a_uuid_has_sixteen_bytes.ensures in
-    let listed = same_store (g.S.Store.state c.args.store.now) (g.S.Store.state c.list.new.self) listing.unchanged
-    listing.count in
-    let lists = subst (λ list. IfSome told (λ objects. Lists uuid objects list)) (sym c.as_slice.ensures) listing.listed in
-    let base = c.in_ok-base.base in
-    newest_begins told uuid geometry all base is_uuid lists
-    (subst (λ (s : StoreState). IfSome s.objects (IsNewestAmong geometry all base)) listed (c.in_ok-base.ensures.newest tells))
+    let lists = subst (λ list. IfSome told (λ objects. Lists uuid objects list)) (sym c.as_slice.ensures) c.requires.listed in
+    newest_begins told uuid geometry c.as_slice.result.now c.in_ok-base.base is_uuid lists (c.in_ok-base.ensures.newest tells)
     names named
 
 -- the search for it changed nothing
 same_before : (g : given.Over) (c : In_ok-base g)
     → g.S.Store.state c.newest_checkpoint.new.store ≡ g.S.Store.state c.args.store.now
 same_before g c =
-    same_store (g.S.Store.state c.list.new.self) (g.S.Store.state c.newest_checkpoint.new.store) c.in_ok-base.ensures.unchanged
+    same_store (g.S.Store.state c.args.store.now) (g.S.Store.state c.newest_checkpoint.new.store) c.in_ok-base.ensures.unchanged
     c.in_ok-base.ensures.faults
-    ∙ same_store (g.S.Store.state c.args.store.now) (g.S.Store.state c.list.new.self) c.in_ok-names.ensures.unchanged
-    c.in_ok-names.ensures.count
 
 pub recover_list-requires-clause-read : goal.recover_list-requires-clause-read
 recover_list-requires-clause-read g c =
-    c.in_ok-base.ensures.read c.args.uuid (subst (AreNamesOf c.args.uuid) (sym c.as_slice.ensures) c.in_ok-names.ensures.names)
+    c.in_ok-base.ensures.read c.args.uuid (subst (AreNamesOf c.args.uuid) (sym c.as_slice.ensures) c.requires.names)
 
 pub recover_list-requires-clause-names : goal.recover_list-requires-clause-names
 recover_list-requires-clause-names g c =
-    subst (AreNamesOf c.args.uuid) (sym c.as_slice-2.ensures) c.in_ok-names.ensures.names
+    subst (AreNamesOf c.args.uuid) (sym c.as_slice-2.ensures) c.requires.names
 
 pub returns-in_err-log : goal.returns-in_err-log
 returns-in_err-log g c =
@@ -163,8 +133,7 @@ returns g c =
     let new = g.S.Store.state c.recover_list.new.store in
     let at = goal.at.returns g c in
     let same = same_before g at.In_ok-base in
-    let names = c.in_ok-names.names in
-    let listing = c.in_ok-names.ensures in
+    let names = c.args.names in
     let done = c.in_ok-log.ensures in
     let own = sym done.list.uuid_is in
     let number = sym (ap (λ (b : ReadCheckpoint). b.number) c.base.view_is) in
@@ -178,8 +147,8 @@ returns g c =
         places = done.places;
         table = subst (λ n. HasTableFrom n c.in_ok-log.log.uploads.queue) number done.table;
         names = record {
-          of_volume = subst (λ u. AreNamesOf u names) own listing.names;
-          listed = subst (λ u. IfSome old.objects (λ objects. Lists u objects names)) own listing.listed;
+          of_volume = subst (λ u. AreNamesOf u names) own c.requires.names;
+          listed = subst (λ u. IfSome old.objects (λ objects. Lists u objects names)) own c.requires.listed;
         };
         told = λ tells.
             subst Found number

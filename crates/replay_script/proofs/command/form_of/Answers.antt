@@ -3,7 +3,7 @@ use Rattle.replay_script.proofs.Words.{found_in_same, have_same, name_alone, nam
 use Rattle.replay_script.proofs.Words.{name_and_four, names_and_two}
 use Rattle.replay_script.proofs.command.form_of.Goals as goal
 use Rattle.replay_script.proofs.command.form_of.Goals.{in-New, in-Write, in-Zero, in-Read, in-Flush, in-Seal, in-TakeJob}
-use Rattle.replay_script.proofs.command.form_of.Goals.{in-JobDone, in-JobFailed, in-Status, in-Stop}
+use Rattle.replay_script.proofs.command.form_of.Goals.{in-JobDone, in-JobFailed, in-SealCheckpoint, in-Remove, in-Status, in-Stop}
 use Rattle.replay_script.proofs.command.form_of.Goals.{in-CrashKeep+in_ok-crash_keep_of-in-CrashKeep}
 use Rattle.replay_script.proofs.command.form_of.Goals.{in-CrashLost+in_ok-crash_lost_of-in-CrashLost}
 
@@ -47,6 +47,12 @@ returns-clause-found c =
           let have = have_same bytes_of c.args.words.now _ _ w.in-JobFailed.is c.requires.begun c.requires.counted in
           let spelled = name_and_one bytes_of c.args.words.now (codes "x") _ have.0 have.1 in
           rw w.result-is (found_in_same _ _ w.job_failed_of.result spelled w.job_failed_of.ensures.found)
+      | in-SealCheckpoint w ↦
+          let have = have_same bytes_of c.args.words.now _ _ w.in-SealCheckpoint.is c.requires.begun c.requires.counted in
+          rw w.result-is (name_alone bytes_of c.args.words.now (codes "c") have.0 have.1, tt)
+      | in-Remove w ↦
+          let have = have_same bytes_of c.args.words.now _ _ w.in-Remove.is c.requires.begun c.requires.counted in
+          rw w.result-is (name_alone bytes_of c.args.words.now (codes "k") have.0 have.1, tt)
       | in-Status w ↦
           let have = have_same bytes_of c.args.words.now _ _ w.in-Status.is c.requires.begun c.requires.counted in
           rw w.result-is (name_alone bytes_of c.args.words.now (codes "i") have.0 have.1, tt)

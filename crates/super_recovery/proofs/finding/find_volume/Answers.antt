@@ -30,6 +30,7 @@ returns-clause-found g c = λ tells.
     let told = (g.S.Store.state c.args.store.now).objects in
     let same = same_objects (g.S.Store.state c.args.store.now) (g.S.Store.state c.find_super.new.store)
     c.in_ok-volume.ensures.unchanged in
-    told_found told c.args.uuid (record { volume = c.in_ok-volume.volume; epoch = c.in_ok-epoch.epoch })
+    told_found told c.args.uuid
+    (record { volume = c.in_ok-volume.volume; epoch = c.in_ok-epoch.epoch; names = c.in_ok-epoch.names })
     (c.in_ok-volume.ensures.says tells)
     (subst (λ held. IfSome held (HasNewestEpoch c.args.uuid c.in_ok-epoch.epoch)) same (c.in_ok-epoch.ensures.newest tells))

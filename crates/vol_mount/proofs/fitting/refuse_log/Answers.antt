@@ -9,7 +9,7 @@ pub returns-in-Ok-clause-why : goal.returns-in-Ok-clause-why
 returns-in-Ok-clause-why g c = λ tells.
     let recovered = c.in-Ok.recovered in
     inl (
-      good_objects c.args.uuid _ (g.S.Store.state c.args.store.now).objects recovered.log recovered.checkpoint
+      good_objects c.args.volume.uuid _ (g.S.Store.state c.args.store.now).objects recovered.log recovered.checkpoint
           c.in-Ok.ensures.list (c.in-Ok.ensures.told tells),
       refl,
     )

@@ -1,4 +1,4 @@
-use Rattle.std.proofs.Common.{◌≡◌, ◌<◌, true, [], inl, inr, refl, sym, ◌∙◌, ap, subst, arith}
+use Rattle.std.proofs.Common.{◌≡◌, ◌<◌, true, inl, inr, refl, sym, ◌∙◌, ap, subst, arith}
 use Rattle.std.proofs.Math.Path.{subst₂}
 use Rattle.std.specs.Prelude.{not, max}
 use Rattle.lsvd_fault.specs.Faults.{Counts}
@@ -6,12 +6,10 @@ use Rattle.lsvd_device.specs.Device.{IsDisk}
 use Rattle.lsvd_objstore.specs.Store.{Becomes}
 use Rattle.obj_log.specs.State.{ObjLogState}
 use Rattle.stopped_volume.specs.Device.{owner_with}
-use Rattle.plain_disk.specs.State.{PlainState}
 use Rattle.stopped_volume.specs.Store.{TellsBytes}
 use Rattle.object_recovery.specs.Removal.{Removes}
 use Rattle.object_recovery.specs.Recovery.{IsPastOf, RemovesAllPast}
-use Rattle.vol_core.specs.Volume.{volume_of}
-use Rattle.vol_core.specs.Shows.{Shows, IsSmall, max_number}
+use Rattle.vol_core.specs.Shows.{max_number}
 use Rattle.vol_mount.specs.Costs.{CostsMount}
 use Rattle.vol_mount.specs.Mounting.{KeepsLeft}
 use Rattle.vol_mount.specs.Mounts.{PassesAll, MakesWithCache}
@@ -27,7 +25,7 @@ use Rattle.vol_mount.proofs.LeftLemmas.{opens_without_store, opening_keeps, open
 use Rattle.vol_mount.proofs.KeptLemmas.{completing_keeps, completing_costs, last_is, kept_shows_some, kept_is_small}
 use Rattle.vol_mount.proofs.KeptLemmas.{kept_of_volume, numbers_next, mounts_left, passes_left, history_is}
 use Rattle.vol_mount.proofs.kept.mount_with_cache.Given as given
-use Rattle.vol_mount.proofs.kept.mount_with_cache.Goals.{In-Ok-open_log, In-Err-open_log, After-assemble}
+use Rattle.vol_mount.proofs.kept.mount_with_cache.Goals.{In-Ok-open_log, In-Err-open_log}
 use Rattle.vol_mount.proofs.kept.mount_with_cache.Goals as goal
 
 -- ---- the list was not recovered
@@ -45,14 +43,15 @@ returns-in-Err g c =
       none = record {
         why = λ tells. inl (c.in-Err.ensures.why tells);
         no_refusal = λ tells.
-            refuses_none_too c.args.uuid c.args.geometry c.args.epoch old.objects disk error (c.in-Err.ensures.no_refusal tells);
+            refuses_none_too c.args.volume.uuid c.args.volume.geometry c.args.volume.epoch old.objects disk error
+            (c.in-Err.ensures.no_refusal tells);
         store = λ none. same;
-        some = may_leave_same Tells c.args.uuid c.args.geometry old.objects new.objects same;
+        some = may_leave_same Tells c.args.volume.uuid c.args.volume.geometry old.objects new.objects same;
         device = inl refl;
-        stops = λ tells. keeps_same c.args.uuid c.args.geometry c.args.epoch old.objects disk;
+        stops = λ tells. keeps_same c.args.volume.uuid c.args.volume.geometry c.args.volume.epoch old.objects disk;
         costs =
-            subst (λ made. CostsMount c.args.geometry.log made disk disk) (sym (ap not c.in-Err.ensures.no_fault))
-            (costs_nothing c.args.geometry disk disk refl);
+            subst (λ made. CostsMount c.args.volume.geometry.log made disk disk) (sym (ap not c.in-Err.ensures.no_fault))
+            (costs_nothing c.args.volume.geometry disk disk refl);
         is_disk = c.requires.is_disk;
       };
       faults = c.in-Err.ensures.faults;
@@ -61,19 +60,21 @@ returns-in-Err g c =
 -- ---- the log was not opened
 
 not_opened : (g : given.Over) (c : In-Err-open_log g)
-    → IsNotOpened (owner_with c.args.uuid c.args.epoch) c.args.geometry c.in-Ok.recovered.log.uploads.queue.end
+    → IsNotOpened (owner_with c.args.volume.uuid c.args.volume.epoch) c.args.volume.geometry
+    c.in-Ok.recovered.log.uploads.queue.end
     c.greatest_number.result c.in-Err-open_log.refused.1 (g.D.Disk.state c.args.disk) (g.D.Disk.state c.in-Err-open_log.refused.0)
 not_opened g c =
     let same : c.end.result ≡ c.in-Ok.recovered.log.uploads.queue.end = cc (c.end.ensures, c.uploads.ensures, c.log.ensures) in
-    subst (λ end. IsNotOpened (owner_with c.args.uuid c.args.epoch) c.args.geometry end c.greatest_number.result
+    subst (λ end. IsNotOpened (owner_with c.args.volume.uuid c.args.volume.epoch) c.args.volume.geometry end
+    c.greatest_number.result
     c.in-Err-open_log.refused.1 (g.D.Disk.state c.args.disk) (g.D.Disk.state c.in-Err-open_log.refused.0))
     same c.in-Err-open_log.ensures.err
 
 pub returns-in-Err-open_log : goal.returns-in-Err-open_log
 returns-in-Err-open_log g c =
-    let uuid = c.args.uuid in
-    let geometry = c.args.geometry in
-    let epoch = c.args.epoch in
+    let uuid = c.args.volume.uuid in
+    let geometry = c.args.volume.geometry in
+    let epoch = c.args.volume.epoch in
     let old = g.S.Store.state c.args.store.now in
     let new = g.S.Store.state c.recover_list.new.store in
     let disk = g.D.Disk.state c.args.disk in
@@ -96,7 +97,7 @@ returns-in-Err-open_log g c =
                 greatest,
                 list.uploads.queue.end,
                 extent_of uuid geometry old.objects recovered greatest c.in-Ok.ensures.list (c.in-Ok.ensures.told tells)
-                    c.in-Ok.ensures.names c.greatest_number.ensures,
+                    c.in-Ok.ensures.has_names c.greatest_number.ensures,
                 refused.why,
               ),
             );
@@ -121,11 +122,13 @@ returns-in-Err-open_log g c =
 -- ---- it was opened
 
 opened : (g : given.Over) (c : In-Ok-open_log g)
-    → IsOpenedOf (owner_with c.args.uuid c.args.epoch) c.args.geometry c.in-Ok.recovered.log.uploads.queue.end
+    → IsOpenedOf (owner_with c.args.volume.uuid c.args.volume.epoch) c.args.volume.geometry
+    c.in-Ok.recovered.log.uploads.queue.end
     (g.D.Disk.state c.args.disk) c.in-Ok-open_log.log
 opened g c =
     let same : c.end.result ≡ c.in-Ok.recovered.log.uploads.queue.end = cc (c.end.ensures, c.uploads.ensures, c.log.ensures) in
-    subst (λ end. IsOpenedOf (owner_with c.args.uuid c.args.epoch) c.args.geometry end (g.D.Disk.state c.args.disk)
+    subst (λ end. IsOpenedOf (owner_with c.args.volume.uuid c.args.volume.epoch) c.args.volume.geometry end (g.D.Disk.state
+    c.args.disk)
     c.in-Ok-open_log.log)
     same c.in-Ok-open_log.ensures.ok
 
@@ -136,26 +139,27 @@ list_low g c =
     omega (arith, less, low)
 
 passes : (g : given.Over) (c : In-Ok-open_log g) → TellsBytes g.S.Receipt.Receipt.state
-    → PassesLeft (owner_with c.args.uuid c.args.epoch) c.args.geometry (g.S.Store.state c.args.store.now).objects
+    → PassesLeft (owner_with c.args.volume.uuid c.args.volume.epoch) c.args.volume.geometry (g.S.Store.state
+    c.args.store.now).objects
     (g.D.Disk.state c.args.disk) c.in-Ok.recovered.log.uploads.window.last
     (max c.in-Ok.recovered.log.uploads.queue.end (opened g c).commits.body.head.seq)
 passes g c tells =
     let told = (g.S.Store.state c.args.store.now).objects in
     let recovered = c.in-Ok.recovered in
     let greatest = c.greatest_number.result in
-    passes_left c.args.uuid c.args.geometry c.args.epoch recovered.log recovered.checkpoint greatest told
+    passes_left c.args.volume.uuid c.args.volume.geometry c.args.volume.epoch recovered.log recovered.checkpoint greatest told
     (g.D.Disk.state c.args.disk) c.in-Ok-open_log.log c.in-Ok.ensures.list (c.in-Ok.ensures.told tells)
-    (extent_of c.args.uuid c.args.geometry told recovered greatest c.in-Ok.ensures.list (c.in-Ok.ensures.told tells)
-    c.in-Ok.ensures.names c.greatest_number.ensures)
+    (extent_of c.args.volume.uuid c.args.volume.geometry told recovered greatest c.in-Ok.ensures.list (c.in-Ok.ensures.told tells)
+    c.in-Ok.ensures.has_names c.greatest_number.ensures)
     c.greatest_number.ensures.no_less c.in-Ok-open_log.ensures.low (opened g c)
 
 -- ---- the list was not completed
 
 pub returns-in-Err-complete : goal.returns-in-Err-complete
 returns-in-Err-complete g c =
-    let uuid = c.args.uuid in
-    let geometry = c.args.geometry in
-    let epoch = c.args.epoch in
+    let uuid = c.args.volume.uuid in
+    let geometry = c.args.volume.geometry in
+    let epoch = c.args.volume.epoch in
     let old = g.S.Store.state c.args.store.now in
     let middle = g.S.Store.state c.recover_list.new.store in
     let new = g.S.Store.state c.complete.new.store in
@@ -208,32 +212,25 @@ returns-in-Err-complete g c =
 pub assemble-requires-clause-shows : goal.assemble-requires-clause-shows
 assemble-requires-clause-shows g c =
     let before = (goal.at.assemble-requires-clause-shows g c).In-Ok-open_log in
-    subst (λ checkpoint. (plain : PlainState) × Shows (volume_of c.in-Ok-complete.objects c.complete.new.log [] checkpoint) plain)
-    (sym c.checkpoint-checkpoint.ensures)
-    (kept_shows_some c.args.uuid c.args.geometry c.args.epoch c.in-Ok.recovered.log c.in-Ok.recovered.checkpoint
+    kept_shows_some c.args.volume.uuid c.args.volume.geometry c.args.volume.epoch c.in-Ok.recovered.log
+    c.in-Ok.recovered.checkpoint
     (g.D.Disk.state c.args.disk) c.in-Ok-open_log.log
     c.complete.new.log c.in-Ok-complete.objects c.requires.limits c.in-Ok.ensures.list (opened g before)
-    c.in-Ok-complete.ensures.ok)
+    c.in-Ok-complete.ensures.ok
 
 pub assemble-requires-clause-small : goal.assemble-requires-clause-small
 assemble-requires-clause-small g c =
     let before = (goal.at.assemble-requires-clause-small g c).In-Ok-open_log in
-    subst (λ checkpoint. IsSmall (volume_of c.in-Ok-complete.objects c.complete.new.log [] checkpoint) 0)
-    (sym c.checkpoint-checkpoint.ensures)
-    (kept_is_small c.args.uuid c.args.geometry c.args.epoch c.in-Ok.recovered.log c.in-Ok.recovered.checkpoint
+    kept_is_small c.args.volume.uuid c.args.volume.geometry c.args.volume.epoch c.in-Ok.recovered.log c.in-Ok.recovered.checkpoint
     (g.D.Disk.state c.args.disk) c.in-Ok-open_log.log
     c.complete.new.log c.in-Ok-complete.objects c.requires.limits c.in-Ok.ensures.list (opened g before)
-    c.in-Ok-complete.ensures.ok (list_low g before))
-
-assembled : (g : given.Over) (c : After-assemble g)
-    → c.assemble.result ≡ mounted_of c.in-Ok-complete.objects c.complete.new.log c.in-Ok.recovered.checkpoint
-assembled g c = c.assemble.ensures ∙ ap (mounted_of c.in-Ok-complete.objects c.complete.new.log) c.checkpoint-checkpoint.ensures
+    c.in-Ok-complete.ensures.ok (list_low g before)
 
 pub returns-in-Ok-complete : goal.returns-in-Ok-complete
 returns-in-Ok-complete g c =
-    let uuid = c.args.uuid in
-    let geometry = c.args.geometry in
-    let epoch = c.args.epoch in
+    let uuid = c.args.volume.uuid in
+    let geometry = c.args.volume.geometry in
+    let epoch = c.args.volume.epoch in
     let old = g.S.Store.state c.args.store.now in
     let middle = g.S.Store.state c.recover_list.new.store in
     let new = g.S.Store.state c.complete.new.store in
@@ -256,8 +253,7 @@ returns-in-Ok-complete g c =
     (same_objects old middle c.in-Ok.ensures.unchanged)
     (subst (λ u. Becomes (RemovesAllPast u list.uploads.window.last) middle.objects new.objects) is.list.uuid_is
     c.in-Ok-complete.ensures.removed) in
-    let made : MakesWithCache Tells (owner_with uuid epoch) geometry old.objects new.objects disk
-    (mounted_of objects log checkpoint) =
+    let made : MakesWithCache Tells (owner_with uuid epoch) geometry old.objects new.objects disk (mounted_of objects log) =
     record {
       volume = kept_of_volume uuid geometry epoch list checkpoint disk before log objects limits is is_open done;
       passes = λ tells.
@@ -279,7 +275,7 @@ returns-in-Ok-complete g c =
     record {
       made =
           subst (MakesWithCache Tells (owner_with uuid epoch) geometry old.objects new.objects disk)
-          (sym (assembled g at.After-assemble)) made;
+          (sym c.assemble.ensures) made;
       none = tt;
       faults = c.in-Ok-complete.ensures.faults ∙ c.in-Ok.ensures.faults;
     }

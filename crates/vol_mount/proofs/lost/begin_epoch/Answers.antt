@@ -15,23 +15,23 @@ use Rattle.vol_mount.proofs.lost.begin_epoch.Goals as goal
 
 -- ---- the list was not recovered
 
-pub returns-in_err-recovered-clause-err : goal.returns-in_err-recovered-clause-err
-returns-in_err-recovered-clause-err g c =
+pub returns-in_err-objects-clause-err : goal.returns-in_err-objects-clause-err
+returns-in_err-objects-clause-err g c =
     let old = (g.S.Store.state c.args.store.now).objects in
     let new = (g.S.Store.state c.recover_alone.new.store).objects in
     let Tells : Type 0 = TellsBytes g.S.Receipt.Receipt.state in
-    let volume = expected_of c.args.uuid c.args.geometry in
-    let refused = c.in_err-recovered.ensures.err in
-    passed_on (RefusesAlone Tells c.args.uuid c.args.geometry c.args.epoch (MayBeginEpoch Tells volume (c.args.epoch + 1)) old
-    new)
-    c.from_residual.result c.in_err-recovered.field-0.0 c.from_residual.ensures.1
+    let volume = expected_of c.args.volume.uuid c.args.volume.geometry in
+    let refused = c.in_err-objects.ensures.err in
+    passed_on (RefusesAlone Tells c.args.volume.uuid c.args.volume.geometry c.args.volume.epoch
+    (MayBeginEpoch Tells volume (c.args.volume.epoch + 1)) old new)
+    c.from_residual.result c.in_err-objects.field-0.0 c.from_residual.ensures.1
     (record {
       why = refused.why;
       no_refusal = refused.no_refusal;
       store = refused.store;
       some =
-          becomes_so (MayRemovePast Tells volume) (MayBeginEpoch Tells volume (c.args.epoch + 1)) old new (λ a b is. inl is)
-          refused.some;
+          becomes_so (MayRemovePast Tells volume) (MayBeginEpoch Tells volume (c.args.volume.epoch + 1)) old new
+          (λ a b is. inl is) refused.some;
       no_fault = refused.no_fault;
     })
 
@@ -42,24 +42,26 @@ returns-in-Err-clause-err g c =
     let old = (g.S.Store.state c.args.store.now).objects in
     let new = g.S.Store.state c.put_epoch.new.store in
     let error = of_super c.in-Err.error in
-    let recovers = c.in_ok-recovered.ensures.ok in
-    let list = c.in_ok-recovered.recovered.0 in
+    let recovers = c.in_ok-objects.ensures.ok in
+    let list = c.in_ok-objects.objects in
     let Tells : Type 0 = TellsBytes g.S.Receipt.Receipt.state in
     let fault : IsFault error = put_faults c.in-Err.error c.in-Err.ensures.answer in
-    subst (RefusesAlone Tells c.args.uuid c.args.geometry c.args.epoch
-    (MayBeginEpoch Tells (expected_of c.args.uuid c.args.geometry) (c.args.epoch + 1)) old new.objects) (sym c.into.ensures)
+    subst (RefusesAlone Tells c.args.volume.uuid c.args.volume.geometry c.args.volume.epoch
+    (MayBeginEpoch Tells (expected_of c.args.volume.uuid c.args.volume.geometry) (c.args.volume.epoch + 1)) old new.objects) (sym
+    c.into.ensures)
     (record {
       why = λ tells.
-          why_lost_too error c.args.uuid c.args.geometry c.args.epoch old
-          (why_faulted error c.args.uuid c.args.geometry old fault);
+          why_lost_too error c.args.volume.uuid c.args.volume.geometry c.args.volume.epoch old
+          (why_faulted error c.args.volume.uuid c.args.volume.geometry old fault);
       no_refusal = λ tells plain number stored. faults_refuse_none error fault;
       store = λ none. absurd (none fault);
       some =
-          may_begin Tells c.args.uuid c.args.geometry list.uploads.window.last (c.args.epoch + 1) c.in-Err.error old
+          may_begin Tells c.args.volume.uuid c.args.volume.geometry list.uploads.window.last (c.args.volume.epoch + 1)
+          c.in-Err.error old
           (g.S.Store.state c.recover_alone.new.store) new
-          (λ tells. last_landed c.args.uuid c.args.geometry old list c.in_ok-recovered.recovered.1 recovers.low.last
+          (λ tells. last_landed c.args.volume.uuid c.args.volume.geometry old list recovers.checkpoint recovers.low.last
           (recovers.told tells))
-          c.in_ok-recovered.ensures.removed c.in-Err.ensures.answer (λ same. c.in-Err.ensures.failed (ap Err same))
+          c.in_ok-objects.ensures.removed c.in-Err.ensures.answer (λ same. c.in-Err.ensures.failed (ap Err same))
           (λ same. c.in-Err.ensures.unchanged (ap Err same));
       no_fault = no_device_fault_of_put c.in-Err.error;
     })
@@ -70,15 +72,15 @@ returns-in-Err-clause-faults g c =
     (sym (ap is_store_fault_of c.into.ensures))
     (put_counts c.in-Err.error (g.S.Store.state c.args.store.now).faults
     (g.S.Store.state c.recover_alone.new.store).faults
-    (g.S.Store.state c.put_epoch.new.store).faults c.in_ok-recovered.ensures.faults c.in-Err.ensures.faults)
+    (g.S.Store.state c.put_epoch.new.store).faults c.in_ok-objects.ensures.faults c.in-Err.ensures.faults)
 
 -- ---- it was put
 
 pub returns-clause-begun : goal.returns-clause-begun
 returns-clause-begun g c =
-    let last = c.in_ok-recovered.recovered.0.uploads.window.last in
-    becomes_both (RemovesAllPast c.args.uuid last) (PutsEpoch c.args.uuid (c.args.epoch + 1))
-    (BeginsEpoch c.args.uuid last (c.args.epoch + 1))
+    let last = c.in_ok-objects.objects.uploads.window.last in
+    becomes_both (RemovesAllPast c.args.volume.uuid last) (PutsEpoch c.args.volume.uuid (c.args.volume.epoch + 1))
+    (BeginsEpoch c.args.volume.uuid last (c.args.volume.epoch + 1))
     (g.S.Store.state c.args.store.now).objects (g.S.Store.state c.recover_alone.new.store).objects
     (g.S.Store.state c.put_epoch.new.store).objects
-    (λ old middle new removed put. (middle, removed, put)) c.in_ok-recovered.ensures.removed c.in_default.ensures.ok
+    (λ old middle new removed put. (middle, removed, put)) c.in_ok-objects.ensures.removed c.in_default.ensures.ok

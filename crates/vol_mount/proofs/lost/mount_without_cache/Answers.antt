@@ -31,7 +31,7 @@ returns-in-Err g c =
         no_refusal = refused.no_refusal;
         store = refused.store;
         some = refused.some;
-        costs = subst (λ b. FailsToFormat c.args.uuid (c.args.epoch + 1) b disk disk) (sym refused.no_fault) refl;
+        costs = subst (λ b. FailsToFormat c.args.volume.uuid (c.args.volume.epoch + 1) b disk disk) (sym refused.no_fault) refl;
         is_disk = c.requires.is_disk;
       };
       faults = c.in-Err.ensures.faults;
@@ -40,35 +40,37 @@ returns-in-Err g c =
 -- ---- the device was formatted, or not
 
 formatted : (g : given.Over) (c : In-Ok-format g)
-    → IsFormattedLog c.args.uuid (c.args.epoch + 1) c.in-Ok.recovered.0.uploads.queue.end (g.D.Disk.state c.args.disk)
+    → IsFormattedLog c.args.volume.uuid (c.args.volume.epoch + 1) c.in-Ok.objects.uploads.queue.end (g.D.Disk.state c.args.disk)
     c.in-Ok-format.log
 formatted g c =
-    subst₂ (λ uuid end. IsFormattedLog uuid (c.args.epoch + 1) end (g.D.Disk.state c.args.disk) c.in-Ok-format.log)
+    subst₂ (λ uuid end. IsFormattedLog uuid (c.args.volume.epoch + 1) end (g.D.Disk.state c.args.disk) c.in-Ok-format.log)
     c.into_bytes.ensures (c.end-end.ensures ∙ ap (λ (u : UploadsState). u.queue.end) c.uploads.ensures)
     c.in-Ok-format.ensures.ok
 
 pub assemble-requires-clause-shows : goal.assemble-requires-clause-shows
 assemble-requires-clause-shows g c =
-    lost_shows_some c.args.uuid c.args.geometry (c.args.epoch + 1) c.in-Ok.recovered.0 c.in-Ok.recovered.1
+    lost_shows_some c.args.volume.uuid c.args.volume.geometry (c.args.volume.epoch + 1) c.in-Ok.objects
+    c.in-Ok.ensures.ok.checkpoint
     (g.D.Disk.state c.args.disk) c.in-Ok-format.log
     c.requires.limits c.requires.log c.in-Ok.ensures.ok.list (formatted g c)
 
 pub assemble-requires-clause-small : goal.assemble-requires-clause-small
 assemble-requires-clause-small g c =
-    lost_is_small c.args.uuid c.args.geometry (c.args.epoch + 1) c.in-Ok.recovered.0 c.in-Ok.recovered.1
+    lost_is_small c.args.volume.uuid c.args.volume.geometry (c.args.volume.epoch + 1) c.in-Ok.objects
+    c.in-Ok.ensures.ok.checkpoint
     (g.D.Disk.state c.args.disk) c.in-Ok-format.log
-    c.requires.limits c.requires.log c.in-Ok.ensures.ok.list (formatted g c) c.args.epoch c.in-Ok.ensures.ok.low
+    c.requires.limits c.requires.log c.in-Ok.ensures.ok.list (formatted g c) c.args.volume.epoch c.in-Ok.ensures.ok.low
 
 pub returns-in-Ok-format : goal.returns-in-Ok-format
 returns-in-Ok-format g c =
-    let uuid = c.args.uuid in
-    let geometry = c.args.geometry in
-    let next = c.args.epoch + 1 in
+    let uuid = c.args.volume.uuid in
+    let geometry = c.args.volume.geometry in
+    let next = c.args.volume.epoch + 1 in
     let old = g.S.Store.state c.args.store.now in
     let new = g.S.Store.state c.begin_epoch.new.store in
     let disk = g.D.Disk.state c.args.disk in
-    let list = c.in-Ok.recovered.0 in
-    let checkpoint = c.in-Ok.recovered.1 in
+    let list = c.in-Ok.objects in
+    let checkpoint = c.in-Ok.ensures.ok.checkpoint in
     let log = c.in-Ok-format.log in
     let recovers = c.in-Ok.ensures.ok in
     let before = (goal.at.returns-in-Ok-format g c).In-Ok-format in
@@ -76,11 +78,11 @@ returns-in-Ok-format g c =
     let limits = c.requires.limits in
     let Tells : Type 0 = TellsBytes g.S.Receipt.Receipt.state in
     let history = history_is uuid geometry next list checkpoint disk log limits c.requires.log recovers.list is in
-    let made : MakesWithoutCache Tells uuid geometry c.args.epoch old.objects new.objects disk (mounted_of list log checkpoint) =
+    let made : MakesWithoutCache Tells uuid geometry c.args.volume.epoch old.objects new.objects disk (mounted_of list log) =
     record {
       volume = lost_of_volume uuid geometry next list checkpoint disk log limits c.requires.log recovers.list is;
       passes = λ tells.
-          subst (λ n. PassesStored uuid geometry c.args.epoch old.objects list.uploads.window.last n) (sym history)
+          subst (λ n. PassesStored uuid geometry c.args.volume.epoch old.objects list.uploads.window.last n) (sym history)
           (recovers.passes tells);
       mounts = λ tells.
           mounts_stored uuid geometry next list checkpoint disk log limits c.requires.log recovers.list is old.objects
@@ -97,7 +99,7 @@ returns-in-Ok-format g c =
     } in
     record {
       made =
-          subst (MakesWithoutCache Tells uuid geometry c.args.epoch old.objects new.objects disk) (sym c.assemble.ensures)
+          subst (MakesWithoutCache Tells uuid geometry c.args.volume.epoch old.objects new.objects disk) (sym c.assemble.ensures)
           made;
       none = tt;
       faults = c.in-Ok.ensures.faults;
@@ -105,14 +107,14 @@ returns-in-Ok-format g c =
 
 pub returns-in-Err-format : goal.returns-in-Err-format
 returns-in-Err-format g c =
-    let uuid = c.args.uuid in
-    let geometry = c.args.geometry in
-    let next = c.args.epoch + 1 in
+    let uuid = c.args.volume.uuid in
+    let geometry = c.args.volume.geometry in
+    let next = c.args.volume.epoch + 1 in
     let old = g.S.Store.state c.args.store.now in
     let new = g.S.Store.state c.begin_epoch.new.store in
     let disk = g.D.Disk.state c.args.disk in
     let left = g.D.Disk.state c.in-Err-format.disk in
-    let list = c.in-Ok.recovered.0 in
+    let list = c.in-Ok.objects in
     let recovers = c.in-Ok.ensures.ok in
     let Tells : Type 0 = TellsBytes g.S.Receipt.Receipt.state in
     let fails : CostsNewLog uuid next false disk left = record {
@@ -124,14 +126,16 @@ returns-in-Err-format g c =
     record {
       made = tt;
       none =
-          subst (LeavesWithoutCache Tells uuid geometry c.args.epoch old.objects new.objects disk left) (sym c.into.ensures)
+          subst (LeavesWithoutCache Tells uuid geometry c.args.volume.epoch old.objects new.objects disk left) (sym
+          c.into.ensures)
           (record {
             why = λ tells. tt;
             no_refusal = λ tells plain number stored. refl;
             store = λ none. absurd (none tt);
             some =
                 may_have_begun Tells uuid geometry list.uploads.window.last next old.objects new.objects
-                (λ tells. last_landed uuid geometry old.objects list c.in-Ok.recovered.1 recovers.low.last (recovers.told tells))
+                (λ tells. last_landed uuid geometry old.objects list c.in-Ok.ensures.ok.checkpoint recovers.low.last
+                (recovers.told tells))
                 c.in-Ok.ensures.begun;
             costs = fails;
             is_disk = c.in-Err-format.ensures.is_disk;

@@ -1,5 +1,4 @@
 use Rattle.std.proofs.Common.{◌≡◌, ◌<◌, ◌∷◌, [], refl, sym, subst, arith}
-use Rattle.std.proofs.Math.Path.{subst₂}
 use Rattle.lsvd_objstore.specs.Store.{Becomes}
 use Rattle.obj_log.specs.State.{ObjLogState}
 use Rattle.vol_core.specs.Shows.{max_number}
@@ -27,15 +26,17 @@ returns-in_err-recovered-clause-err g c =
     let error = c.in_err-recovered.field-0.0 in
     let Tells : Type 0 = TellsBytes g.S.Receipt.Receipt.state in
     let same = same_objects old new c.in_err-recovered.ensures.unchanged in
-    passed_on (RefusesAlone Tells c.args.uuid c.args.geometry c.args.epoch
-    (MayRemovePast Tells (expected_of c.args.uuid c.args.geometry)) old.objects new.objects) c.from_residual.result error
+    passed_on (RefusesAlone Tells c.args.volume.uuid c.args.volume.geometry c.args.volume.epoch
+    (MayRemovePast Tells (expected_of c.args.volume.uuid c.args.volume.geometry)) old.objects new.objects) c.from_residual.result
+    error
     c.from_residual.ensures.1
     (record {
       why = λ tells.
-          why_lost_too error c.args.uuid c.args.geometry c.args.epoch old.objects (c.in_err-recovered.ensures.why tells);
+          why_lost_too error c.args.volume.uuid c.args.volume.geometry c.args.volume.epoch old.objects
+          (c.in_err-recovered.ensures.why tells);
       no_refusal = c.in_err-recovered.ensures.no_refusal;
       store = λ none. same;
-      some = may_leave_same Tells c.args.uuid c.args.geometry old.objects new.objects same;
+      some = may_leave_same Tells c.args.volume.uuid c.args.volume.geometry old.objects new.objects same;
       no_fault = c.in_err-recovered.ensures.no_fault;
     })
 
@@ -45,12 +46,12 @@ end_is : (g : given.Over) (c : After-greatest_number g) → c.end-end.result ≡
 end_is g c = cc (c.end-end.ensures, c.uploads.ensures, c.log.ensures)
 
 extent : (g : given.Over) (c : After-greatest_number g) → TellsBytes g.S.Receipt.Receipt.state
-    → HasExtent c.args.uuid c.args.geometry (g.S.Store.state c.args.store.now).objects c.greatest_number.result
+    → HasExtent c.args.volume.uuid c.args.volume.geometry (g.S.Store.state c.args.store.now).objects c.greatest_number.result
     c.in_ok-recovered.recovered.log.uploads.queue.end
 extent g c tells =
-    extent_of c.args.uuid c.args.geometry (g.S.Store.state c.args.store.now).objects c.in_ok-recovered.recovered
+    extent_of c.args.volume.uuid c.args.volume.geometry (g.S.Store.state c.args.store.now).objects c.in_ok-recovered.recovered
     c.greatest_number.result c.in_ok-recovered.ensures.list (c.in_ok-recovered.ensures.told tells)
-    c.in_ok-recovered.ensures.names c.greatest_number.ensures
+    c.in_ok-recovered.ensures.has_names c.greatest_number.ensures
 
 pub returns-in-Some-clause-err : goal.returns-in-Some-clause-err
 returns-in-Some-clause-err g c =
@@ -64,22 +65,25 @@ returns-in-Some-clause-err g c =
       why = λ tells. (
         greatest,
         recovered.log.uploads.queue.end,
-        subst (λ end. IsFirstGreat (c.args.epoch ∷ greatest ∷ end ∷ []) c.in-Some.value) (end_is g at) c.in-Some.ensures.some,
+        subst (λ end. IsFirstGreat (c.args.volume.epoch ∷ greatest ∷ end ∷ []) c.in-Some.value) (end_is g at)
+            c.in-Some.ensures.some,
         extent g at tells,
-        good_objects c.args.uuid c.args.geometry old.objects recovered.log recovered.checkpoint c.in_ok-recovered.ensures.list
+        good_objects c.args.volume.uuid c.args.volume.geometry old.objects recovered.log recovered.checkpoint
+            c.in_ok-recovered.ensures.list
             (c.in_ok-recovered.ensures.told tells),
       );
       no_refusal = λ tells plain number stored. refl;
       store = λ none. same;
-      some = may_leave_same (TellsBytes g.S.Receipt.Receipt.state) c.args.uuid c.args.geometry old.objects new.objects same;
+      some = may_leave_same (TellsBytes g.S.Receipt.Receipt.state) c.args.volume.uuid c.args.volume.geometry old.objects
+          new.objects same;
       no_fault = refl;
     }
 
 -- its numbers are low
-list_low : (g : given.Over) (c : In_default g) → AreLow c.args.epoch c.in_ok-recovered.recovered.log
+list_low : (g : given.Over) (c : In_default g) → AreLow c.args.volume.epoch c.in_ok-recovered.recovered.log
 list_low g c =
     let low = c.in_default.ensures.none in
-    let epoch : c.args.epoch < max_number = low 0 0 (omega arith) in
+    let epoch : c.args.volume.epoch < max_number = low 0 0 (omega arith) in
     let greatest : c.greatest_number.result < max_number = low 1 0 (omega arith) in
     let end : c.end-end.result < max_number = low 2 0 (omega arith) in
     let less = c.greatest_number.ensures.no_less in
@@ -106,19 +110,19 @@ returns-in-Err-clause-err g c =
     let some =
     subst (λ uuid. Becomes (Removes (IsPastOf uuid last)) middle.objects new.objects) c.in_ok-recovered.ensures.list.list.uuid_is
     c.in-Err.ensures.some in
-    subst (RefusesAlone Tells c.args.uuid c.args.geometry c.args.epoch
-    (MayRemovePast Tells (expected_of c.args.uuid c.args.geometry)) old.objects new.objects) (sym c.into.ensures)
+    subst (RefusesAlone Tells c.args.volume.uuid c.args.volume.geometry c.args.volume.epoch
+    (MayRemovePast Tells (expected_of c.args.volume.uuid c.args.volume.geometry)) old.objects new.objects) (sym c.into.ensures)
     (record {
       why = λ tells.
-          why_lost_too error c.args.uuid c.args.geometry c.args.epoch old.objects
-          (why_faulted error c.args.uuid c.args.geometry old.objects fault);
+          why_lost_too error c.args.volume.uuid c.args.volume.geometry c.args.volume.epoch old.objects
+          (why_faulted error c.args.volume.uuid c.args.volume.geometry old.objects fault);
       no_refusal = λ tells plain number stored. faults_refuse_none error fault;
       store = λ none. absurd (none fault);
       some =
-          may_leave_less Tells c.args.uuid c.args.geometry last old.objects new.objects
-          (λ tells. last_landed c.args.uuid c.args.geometry old.objects list c.in_ok-recovered.recovered.checkpoint
+          may_leave_less Tells c.args.volume.uuid c.args.volume.geometry last old.objects new.objects
+          (λ tells. last_landed c.args.volume.uuid c.args.volume.geometry old.objects list c.in_ok-recovered.recovered.checkpoint
           (list_low g (goal.at.returns-in-Err-clause-err g c).In_default).last (c.in_ok-recovered.ensures.told tells))
-          (becomes_from (Removes (IsPastOf c.args.uuid last)) old.objects middle.objects new.objects
+          (becomes_from (Removes (IsPastOf c.args.volume.uuid last)) old.objects middle.objects new.objects
           (same_objects old middle c.in_ok-recovered.ensures.unchanged) some);
       no_fault = no_device_fault c.in-Err.error;
     })
@@ -141,15 +145,18 @@ returns-clause-ok g c =
     let low = list_low g at.In_default in
     let numbers = c.in_default.ensures.none in
     let greatest : c.greatest_number.result < max_number = numbers 1 0 (omega arith) in
-    subst₂ (λ l n. RecoversAlone (TellsBytes g.S.Receipt.Receipt.state) c.args.uuid c.args.geometry c.args.epoch told l n)
-    (sym c.into_log.ensures) (sym c.checkpoint-checkpoint.ensures)
+    subst (RecoversAlone (TellsBytes g.S.Receipt.Receipt.state) c.args.volume.uuid c.args.volume.geometry c.args.volume.epoch
+    told)
+    (sym c.into_log.ensures)
     (record {
+      checkpoint = recovered.checkpoint;
       list = c.in_ok-recovered.ensures.list;
       low = low;
       told = c.in_ok-recovered.ensures.told;
       passes = λ tells. record {
         good =
-            good_up_to c.args.uuid c.args.geometry told list recovered.checkpoint low.last c.in_ok-recovered.ensures.list
+            good_up_to c.args.volume.uuid c.args.volume.geometry told list recovered.checkpoint low.last
+            c.in_ok-recovered.ensures.list
             (c.in_ok-recovered.ensures.told tells);
         greatest = c.greatest_number.result;
         extent = extent g at.After-greatest_number tells;

@@ -14,7 +14,7 @@ returns-in_err-recovered g c =
     let p = err_from_is_err_and c.from_residual.result c.from_residual.ensures.1 in
     rw (p.1, p.2) (record {
       list = tt;
-      names = tt;
+      has_names = tt;
       told = λ tells. tt;
       why = λ tells. why_of error c.args.uuid c.args.geometry old.objects (failed.refused tells);
       no_refusal = λ tells. no_refusal_of error c.args.uuid c.args.geometry old.objects (failed.refused tells);
@@ -31,13 +31,13 @@ returns-then-checkpoint-eq0 g c =
     let none = sym c.checkpoint.ensures ∙ c.if-checkpoint-eq0.true in
     record {
       list = tt;
-      names = tt;
+      has_names = tt;
       told = λ tells. tt;
       why = λ tells.
           only_none c.args.uuid c.args.geometry told recovered.checkpoint none
           (told_newest c.args.uuid c.args.geometry told recovered.log recovered.checkpoint (is.found.told tells));
       no_refusal = λ tells.
-          only_none_refuses c.args.uuid c.args.geometry told recovered.checkpoint c.requires none
+          only_none_refuses c.args.uuid c.args.geometry told recovered.checkpoint c.requires.limits none
           (told_newest c.args.uuid c.args.geometry told recovered.log recovered.checkpoint (is.found.told tells));
       no_fault = refl;
       unchanged = is.unchanged;
@@ -56,8 +56,9 @@ returns g c =
         places = is.found.places;
         numbered = omega (arith, c.checkpoint.ensures, c.if-checkpoint-eq0.false);
         from = is.found.from;
+        table = is.found.table;
       };
-      names = is.found.names;
+      has_names = is.found.names;
       told = λ tells.
           recovered_from c.args.uuid c.args.geometry told recovered.log recovered.checkpoint (is.found.told tells);
       why = λ tells. tt;

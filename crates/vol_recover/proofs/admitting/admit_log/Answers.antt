@@ -1,8 +1,10 @@
 use Rattle.std.proofs.Common.{inl, sym, subst}
+use Rattle.std.specs.Prelude.{◌⊎◌}
+use Rattle.lsvd_base.specs.declared.geometry.Geometry.{Geometry}
 use Rattle.lsvd_fault.specs.Faults.{Counts}
 use Rattle.lsvd_objstore.specs.Store.{StoreState}
 use Rattle.object_recovery.proofs.FindLemmas.{same_store}
-use Rattle.vol_mount.specs.Refusals.{is_store_fault_of}
+use Rattle.vol_mount.specs.Refusals.{IsUnfitting, IsWhyNotStored, is_store_fault_of}
 use Rattle.vol_recover.proofs.AdmitLemmas.{is_admitted, is_not_admitted}
 use Rattle.vol_recover.proofs.Results.{counted_objects, counted_then}
 use Rattle.vol_recover.proofs.admitting.admit_log.Goals as goal
@@ -18,9 +20,13 @@ pub returns-then-not-is_within_limits-clause-why : goal.returns-then-not-is_with
 returns-then-not-is_within_limits-clause-why g c = λ tells.
     let old = g.S.Store.state c.args.store.now in
     let middle = g.S.Store.state c.describe.new.store in
-    is_not_admitted c.args.uuid c.args.log old.objects middle.objects c.in-Ok.described.geometry c.in-Ok.described.epoch
-    c.refuse_log.result c.in-Ok.ensures.log (c.in-Ok.ensures.told tells) (sym c.if-not-is_within_limits.ensures)
-    (counted_objects old middle c.in-Ok.ensures.unchanged) (c.refuse_log.ensures.why tells)
+    let geometry : Geometry = c.in-Ok.described.geometry in
+    let error = c.refuse_log.result in
+    is_not_admitted c.args.uuid c.args.log old.objects middle.objects geometry c.in-Ok.described.epoch error
+    c.in-Ok.ensures.log (c.in-Ok.ensures.told tells) (sym c.if-not-is_within_limits.ensures)
+    (counted_objects old middle c.in-Ok.ensures.unchanged)
+    (subst (λ u. IsUnfitting u geometry middle.objects error ⊎ IsWhyNotStored u geometry middle.objects error)
+    c.in-Ok.ensures.uuid (c.refuse_log.ensures.why tells))
 
 pub returns-then-not-is_within_limits-clause-unchanged : goal.returns-then-not-is_within_limits-clause-unchanged
 returns-then-not-is_within_limits-clause-unchanged g c =

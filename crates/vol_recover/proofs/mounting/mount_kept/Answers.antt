@@ -80,7 +80,9 @@ returns-then-not-is_within_limits g c =
               (
                 λ tells.
                     subst (λ (s : StoreState). IsUnfitting c.args.uuid geometry s.objects error
-                    ⊎ IsWhyNotStored c.args.uuid geometry s.objects error) same (is.why tells),
+                    ⊎ IsWhyNotStored c.args.uuid geometry s.objects error) same
+                    (subst (λ u. IsUnfitting u geometry middle.objects error ⊎ IsWhyNotStored u geometry middle.objects error)
+                    c.in-Ok.ensures.uuid (is.why tells)),
                 record {
                   device = refl;
                   is_disk = c.requires.is_disk;
@@ -111,7 +113,10 @@ returns g c =
             inr (
               sym c.if-not-is_within_limits.ensures,
               subst (λ s. MountsWithCache g.D.Disk.state (TellsBytes g.S.Receipt.Receipt.state) (owner_with c.args.uuid epoch)
-                  geometry (g.D.Disk.state c.args.disk) s new c.mount_with_cache.result) same c.mount_with_cache.ensures,
+                  geometry (g.D.Disk.state c.args.disk) s new c.mount_with_cache.result) same
+                  (subst (λ u. MountsWithCache g.D.Disk.state (TellsBytes g.S.Receipt.Receipt.state) (owner_with u epoch)
+                  geometry (g.D.Disk.state c.args.disk) middle new c.mount_with_cache.result) c.in-Ok.ensures.uuid
+                  c.mount_with_cache.ensures),
             ),
           );
     }

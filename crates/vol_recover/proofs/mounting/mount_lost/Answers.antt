@@ -79,7 +79,9 @@ returns-then-not-is_within_limits g c =
               (
                 λ tells.
                     subst (λ (s : StoreState). IsUnfitting c.args.uuid geometry s.objects error
-                    ⊎ IsWhyNotStored c.args.uuid geometry s.objects error) same (is.why tells),
+                    ⊎ IsWhyNotStored c.args.uuid geometry s.objects error) same
+                    (subst (λ u. IsUnfitting u geometry middle.objects error ⊎ IsWhyNotStored u geometry middle.objects error)
+                    c.in-Ok.ensures.uuid (is.why tells)),
                 record {
                   device = refl;
                   is_disk = c.requires.is_disk;
@@ -110,7 +112,10 @@ returns g c =
             inr (
               sym c.if-not-is_within_limits.ensures,
               subst (λ s. MountsWithoutCache g.D.Disk.state (TellsBytes g.S.Receipt.Receipt.state) c.args.uuid geometry epoch
-                  (g.D.Disk.state c.args.disk) s new c.mount_without_cache.result) same c.mount_without_cache.ensures,
+                  (g.D.Disk.state c.args.disk) s new c.mount_without_cache.result) same
+                  (subst (λ u. MountsWithoutCache g.D.Disk.state (TellsBytes g.S.Receipt.Receipt.state) u geometry epoch
+                  (g.D.Disk.state c.args.disk) middle new c.mount_without_cache.result) c.in-Ok.ensures.uuid
+                  c.mount_without_cache.ensures),
             ),
           );
     }

@@ -37,7 +37,7 @@ returns g c =
       count = λ count told. attempt_counts state entry reply old new of plain shows count (sym is ∙ told);
       back = subst (λ a. MayTryAgain entry a old.volume new.volume) (sym is)
           (attempt_hands state entry reply old new of plain shows c.requires.range back);
-      work = work_bound old.volume plain shows c.step.ensures.order.uploads;
+      work = work_bound old.volume plain shows c.requires.idle;
       faults = subst (λ b. Counts b old.volume.log.commits.disk.faults new.volume.log.commits.disk.faults)
           (sym (ap attempt_failed is ∙ attempt_fault reply)) of.step.faults;
       idle = entering_idle state entry reply old new of plain shows c.requires.idle;

@@ -51,7 +51,7 @@ returns-in_err-put-in-Some g c =
           (take_makes state reply old mid of plain shows) (take_faults state reply old mid of plain shows)) put.call));
       less =
           subst (λ (r : Result Bool OwnerError). IfOk r (λ has_helped. HasHelped has_helped old.volume last.volume)) (sym is) tt;
-      work = work_bound old.volume plain shows of.order.uploads;
+      work = work_bound old.volume plain shows c.requires.idle;
       error = λ range. (let same : error ≡ errors.Range = cc in put.error (ap Err same));
       idle = put.idle;
     }
@@ -77,7 +77,7 @@ returns-in_ok-put-in-Some g c =
           (quiet_call state 1 [] old mid first (step_act state asks.TakeJob reply [] old mid first of tt refl)
           (take_makes state reply old mid of plain shows) (take_faults state reply old mid of plain shows)) put.call;
       less = subst (λ w. work_of last.volume < w) taken.1 put.less;
-      work = work_bound old.volume plain shows of.order.uploads;
+      work = work_bound old.volume plain shows c.requires.idle;
       error = λ range. cc;
       idle = put.idle;
     }
@@ -120,7 +120,7 @@ returns-in-None g c =
           (quiet_call state 1 [] mid last first
           (step_acts state asks.Seal [] mid last first (λ volume s. tt) sealed.step) sealed.steps sealed.faults));
       less = helped_as c.seal.result old.volume mid.volume last.volume left.2 sealed.less;
-      work = work_bound old.volume plain shows of.order.uploads;
+      work = work_bound old.volume plain shows c.requires.idle;
       error = memory_no_range c.seal.result sealed.error;
       idle = sealed.idle;
     }

@@ -28,5 +28,17 @@ returns-in-JobDone-clause-step g c = rw c.in-JobDone.is c.job_done.ensures.step
 pub returns-in-JobFailed-clause-step : goal.returns-in-JobFailed-clause-step
 returns-in-JobFailed-clause-step g c = rw c.in-JobFailed.is c.job_failed.ensures.step
 
+pub returns-in-SealCheckpoint-clause-step : goal.returns-in-SealCheckpoint-clause-step
+returns-in-SealCheckpoint-clause-step g c = rw c.in-SealCheckpoint.is c.seal_checkpoint.ensures.step
+
+pub returns-in-TakeRemove-clause-step : goal.returns-in-TakeRemove-clause-step
+returns-in-TakeRemove-clause-step g c = rw c.in-TakeRemove.is c.take_remove.ensures.step
+
+pub returns-in-RemoveDone-clause-step : goal.returns-in-RemoveDone-clause-step
+returns-in-RemoveDone-clause-step g c = rw c.in-RemoveDone.is c.remove_done.ensures.step
+
+pub returns-in-RemoveFailed-clause-step : goal.returns-in-RemoveFailed-clause-step
+returns-in-RemoveFailed-clause-step g c = rw c.in-RemoveFailed.is c.remove_failed.ensures.step
+
 pub returns-in-Status-clause-step : goal.returns-in-Status-clause-step
 returns-in-Status-clause-step g c = rw c.in-Status.is c.status.ensures

@@ -18,4 +18,4 @@ pub returns-clause-stands : goal.returns-clause-stands
 returns-clause-stands g c =
     let inside = c.self.inside in
     subst (λ (s : SteppedVolume). (owner : CacheOwner) → HasOwnCommits owner s.volume → KeepsNow owner s.volume) c.self.view_is
-    (stands_now (volume_of inside.objects inside.log inside.pins inside.checkpoint) c.into_disk.ensures.on_disk)
+    (stands_now (volume_of inside.objects inside.log) c.into_disk.ensures.on_disk)

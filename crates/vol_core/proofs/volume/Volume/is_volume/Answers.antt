@@ -6,7 +6,7 @@ use Rattle.vol_core.proofs.volume.Volume.is_volume.Goals as goal
 pub returns : goal.returns
 returns g c =
     let inside = c.self.inside in
-    let volume : VolumeState = volume_of inside.objects inside.log inside.pins inside.checkpoint in
+    let volume : VolumeState = volume_of inside.objects inside.log in
     let order : IsSound volume = record {
       on_disk = c.on_disk.ensures;
       uploads = rw c.uploads.ensures at c.frontier.ensures.order;

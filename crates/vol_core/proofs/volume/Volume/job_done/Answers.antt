@@ -9,22 +9,25 @@ use Rattle.vol_core.proofs.volume.Volume.job_done.Goals as goal
 pub invariant_of-self : goal.invariant_of-self
 invariant_of-self g c =
     let inside = c.self.inside in
-    let volume : VolumeState = volume_of inside.objects inside.log inside.pins inside.checkpoint in
+    let volume : VolumeState = volume_of inside.objects inside.log in
     let objects = c.job_done.new.objects in
     let reply = c.job_done.result in
     let ready = subst IsReadyForStep (sym c.self.view_is) c.requires.ready in
-    let step = step_of_done g.R.Receipt.state volume objects c.args.job c.args.receipt reply ready.order.uploads
-    c.requires.receipt c.job_done.ensures in
+    let is = c.self.invariant in
+    let step =
+    step_of_done g.R.Receipt.state volume objects is.plain is.shows c.args.job c.args.receipt reply ready.order.uploads
+    c.job_done.ensures.order c.requires.receipt c.job_done.ensures.done in
     steps_keep_volume g.R.Receipt.state (events.JobDone c.args.job c.args.receipt) reply volume (with_objects objects volume)
-    inside.steps c.self.invariant ready step.step step.numbers
+    inside.steps is ready step.step step.numbers
 
 pub returns-clause-step : goal.returns-clause-step
 returns-clause-step g c =
     let inside = c.self.inside in
-    let volume : VolumeState = volume_of inside.objects inside.log inside.pins inside.checkpoint in
+    let volume : VolumeState = volume_of inside.objects inside.log in
     let objects = c.job_done.new.objects in
     let reply = c.job_done.result in
     let ready = subst IsReadyForStep (sym c.self.view_is) c.requires.ready in
+    let is = c.self.invariant in
     step_seen g.R.Receipt.state (events.JobDone c.args.job c.args.receipt) reply (with_objects objects volume) _ _ c.self.view_is
-    (step_of_done g.R.Receipt.state volume objects c.args.job c.args.receipt reply ready.order.uploads c.requires.receipt
-    c.job_done.ensures)
+    (step_of_done g.R.Receipt.state volume objects is.plain is.shows c.args.job c.args.receipt reply ready.order.uploads
+    c.job_done.ensures.order c.requires.receipt c.job_done.ensures.done)

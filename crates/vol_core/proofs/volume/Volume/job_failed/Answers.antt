@@ -9,17 +9,20 @@ use Rattle.vol_core.proofs.volume.Volume.job_failed.Goals as goal
 pub invariant_of-self : goal.invariant_of-self
 invariant_of-self g c =
     let inside = c.self.inside in
-    let volume : VolumeState = volume_of inside.objects inside.log inside.pins inside.checkpoint in
+    let volume : VolumeState = volume_of inside.objects inside.log in
     let objects = c.job_failed.new.objects in
-    let step = step_of_return g.R.Receipt.state volume objects c.args.job c.job_failed.result c.job_failed.ensures in
+    let is = c.self.invariant in
+    let step =
+    step_of_return g.R.Receipt.state volume objects is.plain is.shows c.args.job c.job_failed.result c.job_failed.ensures in
     let ready = subst IsReadyForStep (sym c.self.view_is) c.requires in
     steps_keep_volume g.R.Receipt.state (events.JobFailed c.args.job) c.job_failed.result volume (with_objects objects volume)
-    inside.steps c.self.invariant ready step.step step.numbers
+    inside.steps is ready step.step step.numbers
 
 pub returns-clause-step : goal.returns-clause-step
 returns-clause-step g c =
     let inside = c.self.inside in
-    let volume : VolumeState = volume_of inside.objects inside.log inside.pins inside.checkpoint in
+    let volume : VolumeState = volume_of inside.objects inside.log in
     let objects = c.job_failed.new.objects in
+    let is = c.self.invariant in
     step_seen g.R.Receipt.state (events.JobFailed c.args.job) c.job_failed.result (with_objects objects volume) _ _ c.self.view_is
-    (step_of_return g.R.Receipt.state volume objects c.args.job c.job_failed.result c.job_failed.ensures)
+    (step_of_return g.R.Receipt.state volume objects is.plain is.shows c.args.job c.job_failed.result c.job_failed.ensures)

@@ -1,49 +1,50 @@
-use Rattle.std.proofs.Common.{refl, subst, sym}
+use Rattle.std.proofs.Common.{◌≡◌, true, false, refl, sym, subst}
 use Rattle.vol_core.specs.declared.event.Event.TheVariants as events
-use Rattle.vol_core.specs.declared.reply.Reply.TheVariants as replies
-use Rattle.vol_core.specs.Volume.{VolumeState, SteppedVolume, volume_of}
+use Rattle.vol_core.specs.Volume.{VolumeState, volume_of}
 use Rattle.vol_core.specs.Step.{StepOf}
 use Rattle.vol_core.specs.Calls.{IsReadyForStep}
-use Rattle.vol_core.proofs.StepLemmas.{steps_keep_volume, step_seen, numbers_stay}
-use Rattle.vol_core.proofs.ReleaseSteps.{with_pins, released_steps, not_released_steps}
-use Rattle.vol_core.proofs.StepsOf.{step_of_pins}
+use Rattle.vol_core.proofs.StepLemmas.{with_objects, steps_keep_volume, step_seen}
+use Rattle.vol_core.proofs.StepsOf.{step_of_release, step_of_kept_plan}
+use Rattle.vol_core.proofs.volume.Volume.release.Given as given
+use Rattle.vol_core.proofs.volume.Volume.release.Goals.{Joined-release, in-Ok, in-Err}
 use Rattle.vol_core.proofs.volume.Volume.release.Goals as goal
 
-pub returns-then-not-has_all-clause-step : goal.returns-then-not-has_all-clause-step
-returns-then-not-has_all-clause-step g c =
+-- the plan is given back, or one of its objects is not pinned
+step : (g : given.Over) (c : Joined-release g)
+    → StepOf g.R.Receipt.state (events.Release c.args.plan) c.match-release.result
+    (volume_of c.self.inside.objects c.self.inside.log) (volume_of c.release.new.objects c.self.inside.log)
+step g c =
     let state = g.R.Receipt.state in
     let inside = c.self.inside in
-    let volume : VolumeState = volume_of inside.objects inside.log inside.pins inside.checkpoint in
+    let volume : VolumeState = volume_of inside.objects inside.log in
     let plan = c.args.plan in
-    let of = step_of_pins state (events.Release plan) (replies.NotReleased plan) volume volume.pins
-    (not_released_steps state plan volume c.objects.result.now c.has_all.result c.objects.ensures.objects c.has_all.ensures
-    c.if-not-has_all.true) refl tt refl in
-    subst (λ (s : SteppedVolume). StepOf state (events.Release plan) (replies.NotReleased plan) s.volume s.volume) c.self.view_is
-    of
+    let objects = c.release.new.objects in
+    let new : VolumeState = with_objects objects volume in
+    let is = c.self.invariant in
+    let ready = subst IsReadyForStep (sym c.self.view_is) c.requires in
+    elim c.match-release.branch [
+      | in-Ok w ↦
+          let says = w.in-Ok.ensures in
+          subst (λ reply. StepOf state (events.Release plan) reply volume new) (sym w.result-is)
+          (step_of_release state volume objects is.plain is.shows plan ready.order.uploads says.ascending (says.out.0 refl)
+          says.unpinned says.batch)
+      | in-Err w ↦
+          let says = w.in-Err.ensures in
+          subst (λ reply. StepOf state (events.Release plan) reply volume new) (sym w.result-is)
+          (step_of_kept_plan state volume objects is.plain is.shows plan w.in-Err.plan says.ascending
+          (λ all. let bad : false ≡ true = says.out.1 all in cc) says.back says.same)
+    ]
 
 pub invariant_of-self : goal.invariant_of-self
 invariant_of-self g c =
     let inside = c.self.inside in
-    let volume : VolumeState = volume_of inside.objects inside.log inside.pins inside.checkpoint in
-    let plan = c.args.plan in
-    let pins = c.unpin.new.self in
+    let volume : VolumeState = volume_of inside.objects inside.log in
     let ready = subst IsReadyForStep (sym c.self.view_is) c.requires in
-    steps_keep_volume g.R.Receipt.state (events.Release plan) replies.Released volume (with_pins pins volume) inside.steps
-    c.self.invariant ready
-    (released_steps g.R.Receipt.state plan volume pins c.objects.result.now c.objects-2.result.now c.has_all.result
-    c.objects.ensures.ascending
-    c.objects.ensures.objects c.objects-2.ensures.objects c.has_all.ensures c.if-not-has_all.false c.unpin.ensures)
-    (numbers_stay volume (with_pins pins volume) refl refl)
+    let of = step g c in
+    steps_keep_volume g.R.Receipt.state (events.Release c.args.plan) c.match-release.result volume
+    (with_objects c.release.new.objects volume) inside.steps c.self.invariant ready of.step of.numbers
 
 pub returns-clause-step : goal.returns-clause-step
 returns-clause-step g c =
-    let state = g.R.Receipt.state in
-    let inside = c.self.inside in
-    let volume : VolumeState = volume_of inside.objects inside.log inside.pins inside.checkpoint in
-    let plan = c.args.plan in
-    let pins = c.unpin.new.self in
-    step_seen state (events.Release plan) replies.Released (with_pins pins volume) _ _ c.self.view_is
-    (step_of_pins state (events.Release plan) replies.Released volume pins
-    (released_steps state plan volume pins c.objects.result.now c.objects-2.result.now c.has_all.result
-    c.objects.ensures.ascending
-    c.objects.ensures.objects c.objects-2.ensures.objects c.has_all.ensures c.if-not-has_all.false c.unpin.ensures) tt tt refl)
+    step_seen g.R.Receipt.state (events.Release c.args.plan) c.match-release.result
+    (volume_of c.release.new.objects c.self.inside.log) _ _ c.self.view_is (step g c)

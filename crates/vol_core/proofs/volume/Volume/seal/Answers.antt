@@ -9,18 +9,20 @@ use Rattle.vol_core.proofs.volume.Volume.seal.Goals as goal
 pub invariant_of-self : goal.invariant_of-self
 invariant_of-self g c =
     let inside = c.self.inside in
-    let volume : VolumeState = volume_of inside.objects inside.log inside.pins inside.checkpoint in
+    let volume : VolumeState = volume_of inside.objects inside.log in
     let objects = c.seal.new.objects in
     let ready = subst IsReadyForStep (sym c.self.view_is) c.requires in
-    let step = step_of_seal g.R.Receipt.state volume objects c.seal.result ready.order.uploads c.seal.ensures in
+    let is = c.self.invariant in
+    let step = step_of_seal g.R.Receipt.state volume objects is.plain is.shows c.seal.result ready.order.uploads c.seal.ensures in
     steps_keep_volume g.R.Receipt.state events.Seal c.seal.result volume (with_objects objects volume) inside.steps
-    c.self.invariant ready step.step step.numbers
+    is ready step.step step.numbers
 
 pub returns-clause-step : goal.returns-clause-step
 returns-clause-step g c =
     let inside = c.self.inside in
-    let volume : VolumeState = volume_of inside.objects inside.log inside.pins inside.checkpoint in
+    let volume : VolumeState = volume_of inside.objects inside.log in
     let objects = c.seal.new.objects in
     let ready = subst IsReadyForStep (sym c.self.view_is) c.requires in
+    let is = c.self.invariant in
     step_seen g.R.Receipt.state events.Seal c.seal.result (with_objects objects volume) _ _ c.self.view_is
-    (step_of_seal g.R.Receipt.state volume objects c.seal.result ready.order.uploads c.seal.ensures)
+    (step_of_seal g.R.Receipt.state volume objects is.plain is.shows c.seal.result ready.order.uploads c.seal.ensures)

@@ -9,17 +9,19 @@ use Rattle.vol_core.proofs.volume.Volume.take_job.Goals as goal
 pub invariant_of-self : goal.invariant_of-self
 invariant_of-self g c =
     let inside = c.self.inside in
-    let volume : VolumeState = volume_of inside.objects inside.log inside.pins inside.checkpoint in
+    let volume : VolumeState = volume_of inside.objects inside.log in
     let objects = c.take_job.new.objects in
-    let step = step_of_take g.R.Receipt.state volume objects c.take_job.result c.take_job.ensures in
+    let is = c.self.invariant in
+    let step = step_of_take g.R.Receipt.state volume objects is.plain is.shows c.take_job.result c.take_job.ensures in
     let ready = subst IsReadyForStep (sym c.self.view_is) c.requires in
     steps_keep_volume g.R.Receipt.state events.TakeJob c.take_job.result volume (with_objects objects volume) inside.steps
-    c.self.invariant ready step.step step.numbers
+    is ready step.step step.numbers
 
 pub returns-clause-step : goal.returns-clause-step
 returns-clause-step g c =
     let inside = c.self.inside in
-    let volume : VolumeState = volume_of inside.objects inside.log inside.pins inside.checkpoint in
+    let volume : VolumeState = volume_of inside.objects inside.log in
     let objects = c.take_job.new.objects in
+    let is = c.self.invariant in
     step_seen g.R.Receipt.state events.TakeJob c.take_job.result (with_objects objects volume) _ _ c.self.view_is
-    (step_of_take g.R.Receipt.state volume objects c.take_job.result c.take_job.ensures)
+    (step_of_take g.R.Receipt.state volume objects is.plain is.shows c.take_job.result c.take_job.ensures)

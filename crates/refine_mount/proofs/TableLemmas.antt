@@ -1,0 +1,138 @@
+-- The table of a list that was recovered shows what a mount makes of a plain volume, and goes on showing it with entries more.
+use Rattle.std.proofs.Common.{◌≡◌, ℕ, ◌+◌, ◌-◌, ◌<◌, ◌&&◌, not, nat_lt, Bool, true, false, Option, Some, None, List, []}
+use Rattle.std.proofs.Common.{◌∷◌, ◌++◌, length, take, get_or, refl, sym, ◌∙◌, ap, subst, arith}
+use Rattle.std.specs.Prelude.{IfSome, IsTrue, ◌↔◌}
+use Rattle.std.specs.List.{All}
+use Rattle.std.proofs.lemmas.Bool.Decides.{nat_tests}
+use Rattle.std.proofs.lemmas.List.Elements.{All-weaker}
+use Rattle.lsvd_base.specs.declared.entry.Entry.{Entry}
+use Rattle.object_stream.specs.Stream.{Owners, after_objects, is_own}
+use Rattle.stopped_volume.specs.Opening.{IsCheckpointOf}
+use Rattle.object_table.specs.declared.row.ObjectRow.{ObjectRow}
+use Rattle.object_table.specs.Table.{row_of}
+use Rattle.object_table.proofs.Listed.{found_holds}
+use Rattle.object_uploads.specs.Queue.{pins_of}
+use Rattle.object_uploads.specs.State.{QueueState}
+use Rattle.plain_disk.specs.Cache.{cache_with}
+use Rattle.plain_disk.specs.Log.{PlainLog}
+use Rattle.plain_disk.specs.State.{PlainState, PlainCheckpoint, stream_in}
+use Rattle.plain_disk.specs.Removals.{maps}
+use Rattle.plain_disk.specs.Valid.{IsUnneeded, IsPlainVolume}
+use Rattle.plain_disk.proofs.CheckpointLemmas.{some_owns, owns_some}
+use Rattle.object_recovery.specs.Checkpoints.{expected_of}
+use Rattle.refine_objects.specs.Table.{passes_unmapped, ShowsTable}
+use Rattle.refine_objects.proofs.TableLemmas.{same_table, room_shows_same_table, added_shows_table}
+use Rattle.refine_mount.specs.Mounted.{going_on}
+use Rattle.refine_mount.specs.Laws.{RecoveredShowsTable, EntriesKeepTable}
+
+-- ---- what was recovered
+
+-- of a table without pins, no row has one
+pub none_pinned : (rows : List ObjectRow) (number : ℕ) (found : Option ObjectRow) → row_of number rows ≡ found
+    → All (λ (row : ObjectRow). row.pins ≡ 0) rows → pins_of found ≡ 0
+none_pinned rows number None is none = refl
+none_pinned rows number (Some row) is none = found_holds (λ (row : ObjectRow). row.pins ≡ 0) number rows row is none
+
+-- a checkpoint maps no object that owns none of its sectors, and the other way
+unowned_unmapped : (checkpoint : PlainCheckpoint) (number : ℕ)
+    → ((k : ℕ) → is_own number (get_or checkpoint.owned k None) ≡ false) → maps checkpoint number ≡ false
+unowned_unmapped checkpoint number none =
+    elim (maps checkpoint number) as (λ b. maps checkpoint number ≡ b → b ≡ false) [
+      | true ↦ λ mapped. (
+          let at = some_owns number checkpoint.owned mapped in
+          let not_own = none at.0 in
+          absurd cc)
+      | false ↦ λ unmapped. refl
+    ] refl
+
+unmapped_unowned : (checkpoint : PlainCheckpoint) (number k : ℕ) → maps checkpoint number ≡ false
+    → is_own number (get_or checkpoint.owned k None) ≡ false
+unmapped_unowned checkpoint number k unmapped =
+    elim (is_own number (get_or checkpoint.owned k None)) as (λ b.
+    is_own number (get_or checkpoint.owned k None) ≡ b → b ≡ false) [
+      | true ↦ λ owns. (let mapped = owns_some number checkpoint.owned k owns in absurd cc)
+      | false ↦ λ other. refl
+    ] refl
+
+-- what is known of a row, as the plain volume's checkpoint says it
+told_unmapped : (checkpoint : PlainCheckpoint) (owned : Owners) (number : ℕ) (unmapped : Bool)
+    → ((k : ℕ) → get_or checkpoint.owned k None ≡ owned k)
+    → (IsTrue unmapped ↔ ((number < checkpoint.number) × ((k : ℕ) → is_own number (owned k) ≡ false)))
+    → unmapped ≡ passes_unmapped checkpoint number
+told_unmapped checkpoint owned number true same told =
+    let is = told.0 refl in
+    let early : nat_lt number checkpoint.number ≡ true = (let low = is.0 in grind (arith, nat_tests)) in
+    let left : maps checkpoint number ≡ false =
+    unowned_unmapped checkpoint number (λ k. ap (is_own number) (same k) ∙ is.1 k) in
+    rw (early, left) refl
+told_unmapped checkpoint owned number false same told =
+    elim (nat_lt number checkpoint.number) as (λ b. nat_lt number checkpoint.number ≡ b
+    → false ≡ (b && not (maps checkpoint number))) [
+      | true ↦ λ early. elim (maps checkpoint number) as (λ m. maps checkpoint number ≡ m → false ≡ not m) [
+        | true ↦ λ mapped. refl
+        | false ↦ λ left. (
+            let low : number < checkpoint.number = grind (arith, nat_tests) in
+            let is = told.1 (low, λ k. ap (is_own number) (sym (same k)) ∙ unmapped_unowned checkpoint number k left) in
+            absurd cc)
+      ] refl
+      | false ↦ λ late. refl
+    ] refl
+
+row_told : (checkpoint : PlainCheckpoint) (owned : Owners) (number : ℕ) (found : Option ObjectRow)
+    → ((k : ℕ) → get_or checkpoint.owned k None ≡ owned k)
+    → IfSome found (λ (row : ObjectRow). IsTrue row.is_unmapped ↔ ((number < checkpoint.number)
+    × ((k : ℕ) → is_own number (owned k) ≡ false)))
+    → IfSome found (λ (row : ObjectRow). row.is_unmapped ≡ passes_unmapped checkpoint number)
+row_told checkpoint owned number None same told = tt
+row_told checkpoint owned number (Some row) same told = told_unmapped checkpoint owned number row.is_unmapped same told
+
+-- where a volume opens at its newest checkpoint, that holds the owners that it opens with
+opened_holds : (plain : PlainState) → IsPlainVolume plain → plain.checkpoint.number ≡ plain.number
+    → (k : ℕ) → get_or plain.checkpoint.owned k None ≡ (stream_in plain).opening k
+opened_holds plain valid opened k =
+    let none : plain.checkpoint.number - plain.number ≡ 0 = omega (arith, opened) in
+    valid.checkpoint.holds (omega (arith, opened)) k
+    ∙ ap (λ (n : ℕ). after_objects plain.number plain.end plain.entries (stream_in plain).opening (take n plain.objects) k) none
+
+pub recovered_shows_table : RecoveredShowsTable
+recovered_shows_table uuid size plain number objects log valid has list last table knows =
+    let rows = log.uploads.queue.maps.objects.rows in
+    let stream = stream_in plain in
+    let first = subst (λ n. IsCheckpointOf (expected_of uuid plain.geometry) objects n stream.end stream.opening) (sym has.opened)
+    has.stored.stored.opens.is.checkpoint in
+    record {
+      checkpoint = table.checkpoint_is;
+      removal = table.removal;
+      known = λ other low high. knows.known other low high
+          ∙ has.present other low (omega (arith, high, list.frontier, last));
+      unmapped = λ other. row_told plain.checkpoint stream.opening other (row_of other rows) (opened_holds plain valid has.opened)
+          (knows.unmapped stream.end stream.opening first other);
+      pins = λ other. none_pinned rows other (row_of other rows) refl table.unpinned;
+      free = tt;
+      gone = All-weaker (IsUnneeded plain.checkpoint) (λ other. other < plain.checkpoint.number)
+          (λ other unneeded. unneeded.before) plain.removed
+          (subst (All (IsUnneeded plain.checkpoint)) has.gone valid.checkpoint.unneeded);
+    }
+
+-- ---- entries more
+
+-- a table does not tell entries
+still_shown : (queue : QueueState) (plain : PlainState) (entries : List Entry) (log : PlainLog) → ShowsTable queue plain
+    → ShowsTable queue (record plain { entries = entries; cache = cache_with log })
+still_shown queue plain entries log shows =
+    same_table queue queue plain (record plain { entries = entries; cache = cache_with log })
+    (record { frontier = refl; rows = refl; checkpoint = refl; removal = refl })
+    (record { checkpoint = refl; removal = refl; removed = refl; pins = refl }) shows
+
+pub entries_keep_table : EntriesKeepTable
+entries_keep_table data_at plain [] log old new shows same =
+    still_shown new.uploads.queue plain (plain.entries ++ []) log (room_shows_same_table old new plain same shows)
+entries_keep_table data_at plain (entry ∷ entries) log old new shows adds =
+    let ready = room_shows_same_table old adds.0 plain adds.2 shows in
+    let more : PlainState = record plain { entries = plain.entries ++ entry ∷ [] } in
+    let at = data_at (adds.0.batch.first + length adds.0.batch.entries) in
+    let added : ShowsTable adds.1.uploads.queue more = added_shows_table adds.0 adds.1 plain entry at adds.4 ready in
+    let rest = entries_keep_table data_at more entries log adds.1 new added adds.5 in
+    same_table new.uploads.queue new.uploads.queue (going_on entries log more) (going_on (entry ∷ entries) log plain)
+    (record { frontier = refl; rows = refl; checkpoint = refl; removal = refl })
+    (record { checkpoint = refl; removal = refl; removed = refl; pins = refl }) rest

@@ -1,0 +1,178 @@
+-- The objects that the newest checkpoint of a stopped store names are there, and have the sectors of the image.
+use Rattle.std.proofs.Common.{◌≡◌, ℕ, ◌-◌, ◌^◌, ◌<◌, ◌≤◌, inl, inr, true, Option, Some, None, List, refl, sym, ◌∙◌}
+use Rattle.std.proofs.Common.{ap, subst, arith, get_or}
+use Rattle.std.specs.Prelude.{option_map}
+use Rattle.std.specs.List.{slice_get}
+use Rattle.std.proofs.lemmas.Bool.Decides.{nat_tests}
+use Rattle.lsvd_base.specs.Image.{Image}
+use Rattle.lsvd_objstore.specs.Objects.{Objects, found}
+use Rattle.object_format.specs.declared.expected.Expected.{Expected}
+use Rattle.object_format.specs.declared.rows.Rows.TheVariants as rows_of
+use Rattle.object_stream.specs.declared.change.Change.TheVariants.{Put}
+use Rattle.object_stream.specs.declared.object.Content.TheVariants.{Data}
+use Rattle.object_stream.specs.declared.owner.Owner.{Owner}
+use Rattle.object_stream.specs.Changes.{sector_of, change_at}
+use Rattle.object_stream.specs.Landed.{Numbers}
+use Rattle.object_stream.specs.Replay.{object_name, expected_at}
+use Rattle.object_stream.specs.Stream.{Stream, owners, end_at, is_own, entries_in_object}
+use Rattle.object_stream.specs.Value.{sector_put, HasSector, StandsForSector}
+use Rattle.object_uploads.specs.Checkpoint.{mapped_place}
+use Rattle.stopped_volume.specs.Opening.{stored_owner, HoldPlaces}
+use Rattle.object_recovery.specs.Checkpoints.{expected_of}
+use Rattle.plain_disk.specs.State.{PlainState, stream_in}
+use Rattle.plain_disk.specs.Checkpoints.{landed_checkpoint}
+use Rattle.plain_disk.specs.Found.{IsMappedThere}
+use Rattle.plain_disk.specs.Removals.{maps}
+use Rattle.plain_disk.specs.Valid.{IsPlainVolume}
+use Rattle.plain_disk.proofs.CheckpointLemmas.{landed_is, owns_some}
+use Rattle.plain_disk.proofs.OpeningLemmas.{owners_are_past}
+use Rattle.plain_disk.proofs.Overlaid.{sectors_limit}
+use Rattle.plain_disk.proofs.SealedLemmas.{mapped_have_landed}
+use Rattle.refine_store.specs.Puts.{IsLaterObject}
+use Rattle.refine_store.specs.Stored.{HasVolumeUpTo}
+use Rattle.refine_store.proofs.BaseLemmas.{base_sealed, HasBase, has_base}
+use Rattle.refine_store.proofs.DataLemmas.{HasData, data_of_content}
+use Rattle.refine_store.proofs.NewestLemmas.{base_from}
+use Rattle.refine_store.proofs.PlaceLemmas.{has_at_place, place_inside}
+use Rattle.refine_store.proofs.ValueLemmas.{image_at, PutIn, OwnsBy, owns_at}
+
+own_test : (owner : Owner) → owner.level ≡ 0 → is_own owner.number (Some owner) ≡ true
+own_test owner level = grind (arith, nat_tests)
+
+module _ (uuid : List ℕ) (epoch : ℕ) (plain : PlainState) (landed : Numbers) (objects : Objects) (valid : IsPlainVolume plain)
+    (has : HasVolumeUpTo uuid epoch plain landed objects) where
+  abbrev volume : Expected
+  volume = expected_of uuid plain.geometry
+
+  abbrev stream : Stream
+  stream = stream_in plain
+
+  abbrev base : ℕ
+  base = (landed_checkpoint landed plain).number
+
+  abbrev image : Image
+  image = image_at plain valid has.blank base
+
+  -- the uuid of the volume's own objects
+  abbrev pub uuid_at : ℕ → Option (List ℕ)
+  uuid_at level = Some uuid
+
+  wide : plain.geometry.sectors < 2 ^ 64
+  wide = omega (arith, sectors_limit plain.geometry valid.limits)
+
+  -- The object that owns a sector is there: a data object, whose entries put it.
+  pub record IsOwnerThere (owner : Owner) (k : ℕ) : Type 0 where
+    level : owner.level ≡ 0
+    past : 1 < owner.number
+    bytes : List ℕ
+    present : found objects (object_name volume owner.number) ≡ Some bytes
+    end : ℕ
+    object : HasData (expected_at volume owner.number (end_at stream (owner.number - 1)))
+        (entries_in_object stream owner.number) end bytes
+    sector : List ℕ
+    puts : change_at (entries_in_object stream owner.number) k ≡ Some (Put sector)
+    image_has : (s : List ℕ) → slice_get image k ≡ Some s → s ≡ sector
+
+  owner_in : (owner : Owner) (k : ℕ) → owner.level ≡ 0 → 1 < owner.number → OwnsBy plain valid has.blank (Some owner) k image
+      → (bytes : List ℕ) → found objects (object_name volume owner.number) ≡ Some bytes
+      → IsLaterObject volume plain owner.number bytes
+      → IsOwnerThere owner k
+  owner_in owner k level past owns bytes present is =
+      let n = owner.number in
+      let before = end_at stream (n - 1) in
+      let put = owns is.object is.there in
+      let data_is = data_of_content stream (expected_at volume n before) is.object.content (entries_in_object stream n)
+      (owners stream (n - 1)) is.object.end bytes is.rows
+      (λ kind. subst (λ c. PutIn plain valid has.blank c n k image) kind put) is.holds in
+      let own : PutIn plain valid has.blank Data n k image =
+      subst (λ c. PutIn plain valid has.blank c n k image) data_is.0 put in
+      record {
+        level = level;
+        past = past;
+        bytes = bytes;
+        present = present;
+        end = is.object.end;
+        object = data_is.1;
+        sector = own.0;
+        puts = own.1;
+        image_has = own.2;
+      }
+
+  owner_there : (owner : Owner) (k : ℕ) → owners stream base k ≡ Some owner → IsOwnerThere owner k
+  owner_there owner k owns =
+      let n = owner.number in
+      let from = base_from plain landed valid has.blank has.seals has.may in
+      let past = owners_are_past plain base k owner has.blank owns in
+      let first : plain.number ≤ base = omega (arith, from.0, from.1) in
+      let own : is_own n (get_or (landed_checkpoint landed plain).owned k None) ≡ true =
+      ap (is_own n) ((landed_is plain landed valid).holds first k ∙ owns) ∙ own_test owner past.0 in
+      let mapped : maps (landed_checkpoint landed plain) n ≡ true =
+      owns_some n (landed_checkpoint landed plain).owned k own in
+      let there : IsMappedThere landed plain n =
+      mapped_have_landed plain landed n valid has.may has.blank has.seals mapped in
+      let object = has.there n there.some (omega (arith, there.before, from.3)) there.there in
+      let by : OwnsBy plain valid has.blank (Some owner) k image =
+      subst (λ (o : Option Owner). OwnsBy plain valid has.blank o k image) owns
+      (owns_at plain valid has.blank base k first (base_sealed uuid epoch plain landed objects valid has)) in
+      elim object.2 [
+        | inl opening ↦ absurd (omega (arith, opening.first, from.0, past.1))
+        | inr is ↦ owner_in owner k past.0 past.1 by object.0 object.1 is
+      ]
+
+  abbrev sector_there : (owner : Owner) (k : ℕ) → (is : IsOwnerThere owner k) → HasSector objects uuid_at owner k is.sector
+  sector_there owner k is = record {
+    expected = expected_at volume owner.number (end_at stream (owner.number - 1));
+    wide = wide;
+    level = refl;
+    number = refl;
+    bytes = is.bytes;
+    present = is.present;
+    header = is.object.header;
+    rows = rows_of.Data is.object.rows;
+    payload = is.object.payload;
+    parts = is.object.parts;
+    has = ap sector_put (is.object.changes k ∙ is.puts);
+  }
+
+  -- ---- the value
+
+  stands_by : (owner : Option Owner) (k : ℕ) (sector : List ℕ) → owners stream base k ≡ owner → slice_get image k ≡ Some sector
+      → OwnsBy plain valid has.blank owner k image
+      → StandsForSector objects uuid_at owner k sector
+  stands_by None k sector owns at by = by sector at
+  stands_by (Some owner) k sector owns at by =
+      let is = owner_there owner k owns in
+      subst (HasSector objects uuid_at owner k) (sym (is.image_has sector at)) (sector_there owner k is)
+
+  pub stands_for : (k : ℕ) (sector : List ℕ) → slice_get image k ≡ Some sector
+      → StandsForSector objects uuid_at (owners stream base k) k sector
+  stands_for k sector at =
+      let from = base_from plain landed valid has.blank has.seals has.may in
+      stands_by (owners stream base k) k sector refl at
+      (owns_at plain valid has.blank base k (omega (arith, from.0, from.1))
+      (base_sealed uuid epoch plain landed objects valid has))
+
+  -- ---- the places
+
+  abbrev there : HasBase uuid epoch plain landed objects valid has
+  there = has_base uuid epoch plain landed objects valid has
+
+  pub hold_places : HoldPlaces objects uuid_at there.is.rows
+  hold_places k place at =
+      let owner : Owner = stored_owner place in
+      let n = place.number in
+      let own = entries_in_object stream n in
+      let is : IsOwnerThere owner k = owner_there owner k (there.is.says k ∙ ap (option_map stored_owner) at) in
+      let from = base_from plain landed valid has.blank has.seals has.may in
+      let before = end_at stream (n - 1) in
+      let placed = there.is.placed k (mapped_place place) (ap (option_map mapped_place) at) is.level
+      (omega (arith, is.past, from.0)) in
+      let sector = has_at_place (expected_at volume n before) own is.end is.bytes is.object k is.sector is.puts in
+      let inside = place_inside (expected_at volume n before) own is.end is.bytes is.object k is.sector is.puts in
+      record {
+        numbered = omega (arith, is.past);
+        sector = is.sector;
+        has = sector_there owner k is;
+        inside = omega (arith, placed, inside);
+        at = ap (λ at_place. sector_of at_place is.object.payload) placed ∙ sector;
+      }

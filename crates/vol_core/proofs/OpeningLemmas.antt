@@ -1,0 +1,63 @@
+-- A volume that shows a plain volume whose first objects were folded into its image shows that volume as it opens.
+use Rattle.std.proofs.Common.{◌≡◌, ℕ, ◌≤◌, Option, Some, None, IfSome, List, sym, ◌∙◌, ap, subst}
+use Rattle.std.proofs.Math.Path.{subst₂}
+use Rattle.lsvd_base.specs.declared.entry.Entry.{Entry}
+use Rattle.cache_log.specs.Log.{LogState, AreRowsOf}
+use Rattle.object_uploads.specs.State.{QueueState}
+use Rattle.plain_disk.specs.State.{PlainState, frontier_end, logged_entries, folded_to}
+use Rattle.plain_disk.proofs.FoldLemmas.{MayFold, frontier_end_of_fold, logged_of_fold}
+use Rattle.refine_log.specs.Logged.{listed_from, HasLoggedEntries}
+use Rattle.refine_objects.specs.Table.{ShowsTable}
+use Rattle.refine_objects.proofs.FoldedShown.{shown_from_first}
+use Rattle.vol_core.specs.Opening.{ShowsFromFirst}
+
+-- the entries of a list from an end on, where the end and the entries are told in another way
+told_alike : (log : LogState) (end other : ℕ) (entries left : List Entry) (told : Option (List Entry)) → end ≡ other
+    → entries ≡ left
+    → IfSome told (λ list. listed_from end log list ≡ entries)
+    → IfSome told (λ list. listed_from other log list ≡ left)
+told_alike log end other entries left None same same_left are = tt
+told_alike log end other entries left (Some list) same same_left are =
+    ap (λ n. listed_from n log list) (sym same) ∙ (are ∙ same_left)
+
+module _ (plain : PlainState) (number : ℕ) (h : MayFold plain number) where
+  -- the log has the same entries past the frontier's end
+  logged_from_first : (data_at : ℕ → ℕ) (log : LogState) → HasLoggedEntries data_at log (folded_to number plain)
+      → HasLoggedEntries data_at log plain
+  logged_from_first data_at log is =
+      let end = frontier_end_of_fold plain number h in
+      let left = logged_of_fold plain number h in
+      record {
+        first = subst (λ n. log.first ≤ n) end is.first;
+        rows = subst₂ (λ n (list : List Entry). AreRowsOf (listed_from n log log.rows) list) end left is.rows;
+        entries =
+            told_alike log (frontier_end (folded_to number plain)) (frontier_end plain) (logged_entries (folded_to number plain))
+            (logged_entries plain) log.entries end left is.entries;
+        placed = is.placed;
+      }
+
+-- folding changes nothing that a table tells
+table_from_first : (plain : PlainState) (number : ℕ) (queue : QueueState) → ShowsTable queue (folded_to number plain)
+    → ShowsTable queue plain
+table_from_first plain number queue is = record {
+  checkpoint = is.checkpoint;
+  removal = is.removal;
+  known = is.known;
+  unmapped = is.unmapped;
+  pins = is.pins;
+  free = is.free;
+  gone = is.gone;
+}
+
+pub shows_from_first : ShowsFromFirst
+shows_from_first volume plain number valid from to none placed shows =
+    let h : MayFold plain number = record { valid = valid; from = from; to = to } in
+    record {
+      valid = valid;
+      data_at = shows.data_at;
+      objects = shown_from_first shows.data_at volume.objects plain number valid from to none placed shows.objects;
+      table = table_from_first plain number volume.objects.uploads.queue shows.table;
+      log = shows.log;
+      logged = logged_from_first plain number h shows.data_at volume.log shows.logged;
+      fuse = shows.fuse;
+    }

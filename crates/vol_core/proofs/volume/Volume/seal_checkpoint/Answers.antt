@@ -1,0 +1,32 @@
+use Rattle.std.proofs.Common.{subst, sym}
+use Rattle.vol_core.specs.declared.event.Event.TheVariants as events
+use Rattle.vol_core.specs.Volume.{VolumeState, volume_of}
+use Rattle.vol_core.specs.Calls.{IsReadyForStep}
+use Rattle.vol_core.proofs.StepLemmas.{with_objects, steps_keep_volume, step_seen}
+use Rattle.vol_core.proofs.CheckpointSteps.{step_of_checkpoint}
+use Rattle.vol_core.proofs.volume.Volume.seal_checkpoint.Goals as goal
+
+pub invariant_of-self : goal.invariant_of-self
+invariant_of-self g c =
+    let inside = c.self.inside in
+    let volume : VolumeState = volume_of inside.objects inside.log in
+    let objects = c.seal_checkpoint.new.objects in
+    let was = c.self.invariant in
+    let ready = subst IsReadyForStep (sym c.self.view_is) c.requires in
+    let step =
+    step_of_checkpoint g.R.Receipt.state volume objects was.plain was.shows c.seal_checkpoint.result ready.order.uploads
+    c.seal_checkpoint.ensures in
+    steps_keep_volume g.R.Receipt.state events.SealCheckpoint c.seal_checkpoint.result volume (with_objects objects volume)
+    inside.steps was ready step.step step.numbers
+
+pub returns-clause-step : goal.returns-clause-step
+returns-clause-step g c =
+    let inside = c.self.inside in
+    let volume : VolumeState = volume_of inside.objects inside.log in
+    let objects = c.seal_checkpoint.new.objects in
+    let was = c.self.invariant in
+    let ready = subst IsReadyForStep (sym c.self.view_is) c.requires in
+    step_seen g.R.Receipt.state events.SealCheckpoint c.seal_checkpoint.result
+    (with_objects objects volume) _ _ c.self.view_is
+    (step_of_checkpoint g.R.Receipt.state volume objects was.plain was.shows c.seal_checkpoint.result ready.order.uploads
+    c.seal_checkpoint.ensures)

@@ -1,0 +1,119 @@
+-- What an event leaves of a plain volume for which a store stands: its opening, its checkpoints and its objects; and of which
+-- object it changes how far that has come.
+use Rattle.std.proofs.Common.{◌≡◌, ℕ, nat_eq, inl}
+use Rattle.std.proofs.Common.{inr, Bool, true, false, cond, not}
+use Rattle.std.proofs.Common.{◌&&◌, ◌||◌, List, [], ◌∷◌, ◌++◌, refl, ◌∙◌, ap, Option, Some, None}
+use Rattle.std.specs.Prelude.{IfSome}
+use Rattle.std.proofs.Math.Bool.{or-true}
+use Rattle.std.proofs.lemmas.Bool.{eq-eqb}
+use Rattle.lsvd_device.specs.Calls.{Fuse}
+use Rattle.object_format.specs.declared.expected.Expected.{Expected}
+use Rattle.plain_disk.specs.declared.event.PlainEvent.{PlainEvent}
+use Rattle.plain_disk.specs.declared.event.PlainEvent.TheVariants.{Write, Zero, Flush, Look, Release, Seal, TakeJob, JobDone}
+use Rattle.plain_disk.specs.declared.event.PlainEvent.TheVariants.{JobFailed, SealCheckpoint, TakeRemove}
+use Rattle.plain_disk.specs.declared.event.PlainEvent.TheVariants.{RemoveDone, RemoveFailed, Status}
+use Rattle.plain_disk.specs.State.{PlainState, OpensBlank}
+use Rattle.plain_disk.specs.Removals.{has, to_remove, with_removal, is_out}
+use Rattle.plain_disk.specs.Reads.{are_pinned}
+use Rattle.plain_disk.specs.Objects.{has_unsealed, is_busy}
+use Rattle.plain_disk.specs.Step.{plain_after}
+use Rattle.plain_disk.specs.Found.{SealsCheckpoints}
+use Rattle.plain_disk.specs.Valid.{IsPlainVolume}
+use Rattle.plain_disk.proofs.OpeningLemmas.{events_keep_opening}
+use Rattle.plain_disk.proofs.MarkedLemmas.{events_seal}
+use Rattle.lsvd_base.specs.Limits.{may_transfer}
+use Rattle.refine_store.specs.Puts.{IsObjectOf}
+use Rattle.refine_store.proofs.KeepLemmas.{events_keep_object}
+use Rattle.vol_core.specs.Step.{passing}
+use Rattle.vol_core.proofs.StepLemmas.{passing_keeps}
+
+-- whose removal is out was given out for it
+abbrev pub IsGivenOut : PlainState → Type 0
+IsGivenOut plain = IfSome plain.removal (λ number. has plain.given_out number ≡ true)
+
+pub record LeavesObjects (plain after : PlainState) : Type 0 where
+  pub blank : OpensBlank plain → OpensBlank after
+  pub seals : SealsCheckpoints plain → SealsCheckpoints after
+  pub out : IsGivenOut plain → IsGivenOut after
+  pub objects : OpensBlank plain → (volume : Expected) (n : ℕ) (bytes : List ℕ) → IsObjectOf volume plain n bytes
+      → IsObjectOf volume after n bytes
+
+pub nothing_leaves : (plain : PlainState) → LeavesObjects plain plain
+nothing_leaves plain = record {
+  blank = λ is. is;
+  seals = λ is. is;
+  out = λ is. is;
+  objects = λ blank volume n bytes is. is;
+}
+
+-- ---- what is out
+
+either_out : (b : Bool) (x y : PlainState) → IsGivenOut x → IsGivenOut y → IsGivenOut (cond b x y)
+either_out true x y first second = first
+either_out false x y first second = second
+
+pub has_last : (numbers : List ℕ) (n : ℕ) → has (numbers ++ n ∷ []) n ≡ true
+has_last [] n = ap (λ b. b || false) (eq-eqb n n refl)
+has_last (other ∷ numbers) n = ap (λ b. nat_eq other n || b) (has_last numbers n) ∙ or-true (nat_eq other n)
+
+taking_out : (plain : PlainState) (out lowest : Option ℕ) → plain.removal ≡ out → IsGivenOut plain
+    → IsGivenOut (with_removal out lowest plain)
+taking_out plain None (Some n) is given = has_last plain.given_out n
+taking_out plain None None is given = given
+taking_out plain (Some other) lowest is given = given
+
+event_out : (plain : PlainState) (event : PlainEvent) → IsGivenOut plain → IsGivenOut (plain_after event plain)
+event_out plain (Write lba body) given = given
+event_out plain (Zero lba sectors) given = given
+event_out plain Flush given = given
+event_out plain (Look lba sectors) given = either_out (may_transfer plain.geometry lba sectors) _ plain given given
+event_out plain (Release numbers) given = either_out (are_pinned numbers plain.pins) _ plain given given
+event_out plain Seal given = either_out (has_unsealed plain && not (is_busy plain)) _ plain given given
+event_out plain TakeJob given = given
+event_out plain (JobDone job) given = given
+event_out plain (JobFailed job) given = given
+event_out plain SealCheckpoint given = either_out (is_busy plain) plain _ given given
+event_out plain TakeRemove given = taking_out plain plain.removal (to_remove plain) refl given
+event_out plain (RemoveDone number) given = either_out (is_out number plain.removal) _ plain tt given
+event_out plain (RemoveFailed number) given = either_out (is_out number plain.removal) _ plain tt given
+event_out plain Status given = given
+
+-- ---- the whole
+
+-- what calls the device passes does not matter to what a plain volume opens with, nor to its objects
+blank_passing : (left : Fuse) (plain : PlainState) → OpensBlank plain → OpensBlank (passing left plain)
+blank_passing left plain is = record { number = is.number; end = is.end; opening = is.opening; owned = is.owned }
+
+seals_passing : (left : Fuse) (plain : PlainState) → SealsCheckpoints plain → SealsCheckpoints (passing left plain)
+seals_passing left plain is = record { sealed = is.sealed; marked = is.marked; removed = is.removed; out = is.out }
+
+object_passing : (left : Fuse) (plain : PlainState) (volume : Expected) (n : ℕ) (bytes : List ℕ)
+    → IsObjectOf volume plain n bytes → IsObjectOf volume (passing left plain) n bytes
+object_passing left plain volume n bytes (inl is) = inl (record {
+  first = is.first;
+  rows = is.rows;
+  is_checkpoint = is.is_checkpoint;
+  says = is.says;
+})
+object_passing left plain volume n bytes (inr is) = inr (record {
+  past = is.past;
+  object = is.object;
+  there = is.there;
+  rows = is.rows;
+  holds = is.holds;
+})
+
+pub event_leaves : (left now : Fuse) (plain : PlainState) (event : PlainEvent) → IsPlainVolume plain
+    → LeavesObjects plain (passing now (plain_after event (passing left plain)))
+event_leaves left now plain event valid =
+    let ready : PlainState = passing left plain in
+    let after : PlainState = plain_after event ready in
+    let is = passing_keeps left plain valid in
+    record {
+      blank = λ blank. blank_passing now after (events_keep_opening ready event (blank_passing left plain blank));
+      seals = λ seals. seals_passing now after (events_seal ready event is (seals_passing left plain seals));
+      out = λ given. event_out ready event given;
+      objects = λ blank volume n bytes object. object_passing now after volume n bytes
+          (events_keep_object volume ready n bytes event is (blank_passing left plain blank)
+          (object_passing left plain volume n bytes object));
+    }
