@@ -120,6 +120,14 @@ impl Batch {
         self.plan.changes.reserve(1)
     }
 
+    // How many further entries there is memory for.
+    fn reserved(&self) -> usize
+        ensures { result ≡ self.now.reserved }
+    {
+        let room = self.entries.capacity() - self.entries.len();
+        room.min(self.plan.changes.spare())
+    }
+
     /// Adds an entry at the end, also to a batch that is full, as a mount does. Memory was taken for it, the
     /// volume takes it, and its seq and the sectors of data with it fit (conditions). It takes no memory.
     pub fn add(&mut self, entry: Entry)
@@ -157,7 +165,8 @@ impl Batch {
             &extents,
             &self.entries,
         )?;
-        let spare = self.plan.changes.spare();
+        // no more than there is memory for now, or each batch would take more than the one before
+        let spare = self.reserved();
         let plan = plan_from(alloc, &self.geometry, &self.entries, entries, spare)?;
         Ok(SealedBatch {
             object: written.object,

@@ -44,4 +44,4 @@ returns c =
     (record { sectors = c.requires.expected.sectors; end_before = c.requires.expected.end_before }))
     c.in_ok-written.written c.in_ok-written.ensures c.keep_widths.ensures.uuid c.keep_widths.ensures.number c.in_ok-plan.plan
     c.in_ok-plan.ensures.plan
-    (omega (arith, c.in_ok-plan.ensures.spare, c.spare-spare.ensures)))
+    (omega (arith, c.in_ok-plan.ensures.spare, c.reserved-spare.ensures, ap (λ s. s.reserved) c.self.view_is)))
