@@ -1,7 +1,6 @@
 pub mod Overlaid
 pub mod EndLemmas
 pub mod CheckpointLemmas
-pub mod FirstLemmas
 pub mod CommitLemmas
 pub mod FlushLemmas
 pub mod StopLemmas

@@ -6,7 +6,6 @@ pub mod Cache
 pub mod State
 pub mod Checkpoints
 pub mod Removals
-pub mod First
 pub mod Reads
 pub mod Entries
 pub mod Objects
