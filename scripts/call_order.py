@@ -16,6 +16,8 @@ end of power, which is what was synced.
     flush     a flush, and a request that is to be durable, is answered when a synced commit has all records
     epoch     a commit is of an epoch whose object is acknowledged
     creation  a super object gets its name, and a creation is told, after all else of the volume was synced
+    ready     a checkpoint gets its name when all lower objects are acknowledged
+    removal   an object loses its name behind an acknowledged checkpoint of a greater number, or past the first missing number
     mount     a mount is told when its commit was synced, and clients can connect
     end       the end is told when all records are in acknowledged objects, and a synced commit says so
 """
@@ -201,6 +203,10 @@ def record_of(at, content):
 # ---- the store
 
 
+# The kind of a checkpoint, in its header.
+CHECKPOINT = struct.pack(">I", 3)
+
+
 class Store:
     """A directory of objects: files that puts write, and names, of which those are acknowledged that were synced."""
 
@@ -211,10 +217,17 @@ class Store:
         self.is_unsettled = False
 
     def add(self, name, content):
+        if ".obj." in name and content[8:12] == CHECKPOINT and self.acknowledged:
+            number = int(name[-16:], 16)
+            need(self.last(self.objects()) == number - 1, "ready", "a lower object is not acknowledged")
         self.unsynced[name] = content
         self.is_unsettled = True
 
     def remove(self, name):
+        if ".obj." in name and name in self.acknowledged:
+            objects = self.objects()
+            number = int(name[-16:], 16)
+            need(number < self.checkpoint(objects) or self.last(objects) < number, "removal", "a mount may need the object")
         self.unsynced.pop(name, None)
         self.acknowledged.pop(name, None)
         self.is_unsettled = True
@@ -226,14 +239,25 @@ class Store:
     def epochs(self):
         return {int(name[-16:], 16) for name in self.acknowledged if ".epoch." in name}
 
-    def end(self):
-        """The end of the acknowledged objects up to the first missing number."""
-        objects = [(name, content) for name, content in self.acknowledged.items() if ".obj." in name]
-        ends = {int(name[-16:], 16): struct.unpack(">Q", content[44:52])[0] for name, content in objects}
-        number = 1
-        while number + 1 in ends:
+    def objects(self):
+        return {int(name[-16:], 16): content for name, content in self.acknowledged.items() if ".obj." in name}
+
+    def checkpoint(self, objects):
+        """The number of the newest checkpoint of these objects."""
+        return max((number for number, content in objects.items() if content[8:12] == CHECKPOINT), default=1)
+
+    def last(self, objects):
+        """The number before the first missing one past that checkpoint."""
+        number = self.checkpoint(objects)
+        while number + 1 in objects:
             number += 1
-        return ends.get(number, 0)
+        return number
+
+    def end(self):
+        """The end of the acknowledged objects from the newest checkpoint on up to the first missing number."""
+        objects = self.objects()
+        content = objects.get(self.last(objects))
+        return struct.unpack(">Q", content[44:52])[0] if content else 0
 
 
 # ---- a session

@@ -277,7 +277,7 @@ def check_rows(program, folder):
 def check_floods(program, folder, dice):
     """Clients of a server that takes no more memory and no file for them, and serves one that is in form after them."""
     server = Server(program, folder, "hostile-cache", store="hostile")
-    check("it is mounted again", server.mounted == "mounted 1 2\n", server.mounted)
+    check("it is mounted again", server.mounted == "mounted 1 3\n", server.mounted)
     by_bytes(server.path)
     memory, files = taken(server)
     for clients in (announce, drown, flood, hold, crowd, deserters, passer):

@@ -26,6 +26,7 @@ use Rattle.plain_disk.specs.declared.event.PlainEvent.{PlainEvent}
 use Rattle.plain_disk.specs.declared.event.PlainEvent.TheVariants as events
 use Rattle.plain_disk.specs.declared.event.PlainReply.{PlainReply}
 use Rattle.plain_disk.specs.declared.event.PlainReply.TheVariants as replies
+use Rattle.plain_disk.specs.Checkpoints.{checkpoint_at, is_started_checkpoint}
 use Rattle.plain_disk.specs.State.{PlainState, stream_in, unsealed_entries}
 use Rattle.plain_disk.specs.Objects.{is_under_way, is_busy, has_unsealed, end_of_next, reply_of_taken, window_after_take}
 use Rattle.plain_disk.specs.Objects.{window_after_done, seal_reply, after_seal}
@@ -45,6 +46,7 @@ use Rattle.vol_core.specs.Events.{Asks, Tells, IsOfPut, IsOfDonePut}
 use Rattle.vol_core.specs.Step.{passing, IsStep, IsNoStep, lacks_memory, tells_fault, CountedStep}
 use Rattle.volume_owner.specs.Owner.{IsIdle}
 use Rattle.volume_owner.specs.Calls.{MakesSteps}
+use Rattle.volume_owner.specs.Clearing.{HasAllPut, AwaitsCheckpoint}
 use Rattle.volume_owner.specs.declared.error.OwnerError.{OwnerError}
 use Rattle.volume_owner.specs.Replies.{job_in, seal_in}
 use Rattle.volume_owner.specs.Helping.{work_of, HasHelped, IsTaken}
@@ -53,6 +55,7 @@ use Rattle.volume_owner.proofs.WindowLemmas.{any_started, none_is_ready, started
 use Rattle.volume_owner.proofs.WindowLemmas.{entered_none, ready_is_open, marked_numbers, marked_long}
 use Rattle.volume_owner.proofs.TellsLemmas.{tells_taken, tells_no_fault}
 use Rattle.volume_owner.proofs.ReplyLemmas.{job_cases, seal_cases, memory_is_no_fault}
+use Rattle.volume_owner.proofs.PutLemmas.{all_put_shown, awaiting_plain, awaiting_shown, one_put, taken_awaits}
 use Rattle.volume_owner.proofs.StepLemmas.{shown_work, shown_idle, idle_shown, plans_shown, plans_plain, quiet_makes}
 
 -- ---- events that ask nothing of the device
@@ -234,6 +237,14 @@ module _ {R : Type 0} (state : R → ReceiptState) (reply : Reply R) (old new : 
         omega (arith, before, later, unsealed, long, marked_long n true objects),
       )
 
+  -- a checkpoint that alone is on its way is so still
+  pub take_awaits : AwaitsCheckpoint old.volume → AwaitsCheckpoint new.volume
+  take_awaits awaits =
+      let after = taking in
+      awaiting_shown new.volume after.after after.shows
+      (taken_awaits (lowest_ready plain.window.objects) plain after.after after.unsealed after.window
+      (awaiting_plain old.volume plain shows awaits))
+
   -- where none begins, none is on its way
   pub none_taken : IsIdle old.volume → job_in reply ≡ None
       → (new.volume.objects.uploads.window.objects ≡ []) × IsIdle new.volume × (work_of new.volume ≡ work_of old.volume)
@@ -265,14 +276,16 @@ module _ {R : Type 0} (state : R → ReceiptState) (reply : Reply R) (old new : 
 
 -- ---- a put is done, or failed
 
--- what such a step leaves
-record IsAfterPut (window : WindowState → WindowState) (plain : PlainState) (new : VolumeState) : Type 0 where
+-- what such a step leaves; of the newest checkpoint something is said
+record IsAfterPut (window : WindowState → WindowState) (IsNewest : PlainState → Type 0) (plain : PlainState) (new : VolumeState) :
+    Type 0 where
   after : PlainState
   shows : Shows new after
   unsealed : unsealed_entries after ≡ unsealed_entries plain
   pins : after.pins ≡ plain.pins
   removal : after.removal ≡ plain.removal
   window_is : after.window ≡ window plain.window
+  newest : IsNewest after
 
 done_put : (volume : VolumeState) (job : JobState) (receipt : ReceiptState) (put : Option ℕ) → IsTaken job volume
     → receipt.name ≡ job.name
@@ -291,9 +304,14 @@ module _ {R : Type 0} (state : R → ReceiptState) (job : JobState) (receipt : R
   started_is : is_started job.name.number plain.window.objects ≡ true
   started_is = ap (λ (w : WindowState). is_started job.name.number w.objects) (sym shows.objects.window) ∙ taken.out.started
 
+  -- the newest acknowledged checkpoint is this object, where it is one
+  abbrev IsNewestDone : PlainState → Type 0
+  IsNewestDone after =
+      is_started_checkpoint job.name.number plain.window.objects ≡ true → after.checkpoint.number ≡ job.name.number
+
   after_done_by : IsStep state (asks.JobDone job receipt) reply plain old.volume new.volume
       ⊎ IsNoStep state (asks.JobDone job receipt) reply plain old.volume new.volume
-      → IsAfterPut (acknowledged job.name.number) plain new.volume
+      → IsAfterPut (acknowledged job.name.number) IsNewestDone plain new.volume
   after_done_by (inl s) =
       let ready : PlainState = passing s.left plain in
       let now : Fuse = fuse_in new.volume.log.commits.disk.budget in
@@ -307,6 +325,7 @@ module _ {R : Type 0} (state : R → ReceiptState) (job : JobState) (receipt : R
         pins = refl;
         removal = refl;
         window_is = ap (λ (b : Bool). if b then acknowledged n plain.window else plain.window) started_is;
+        newest = λ is. ap (λ (b : Bool). (if b then checkpoint_at n ready else ready.checkpoint).number) is;
       }
   after_done_by (inr n) = (let may = n.may in let bad : ⊥ = cc in absurd bad)
 
@@ -340,6 +359,20 @@ module _ {R : Type 0} (state : R → ReceiptState) (job : JobState) (receipt : R
         omega (arith, before, later, unsealed, long, shorter),
       )
 
+  -- all is put, where a checkpoint alone was on its way
+  pub done_puts : AwaitsCheckpoint old.volume → HasAllPut new.volume
+  done_puts awaited =
+      let after = after_done_by (of.step.step plain shows) in
+      let awaits = awaiting_plain old.volume plain shows awaited in
+      let one = one_put job.name.number awaits.object plain.window.objects awaits.on_way awaits.is_checkpoint started_is in
+      all_put_shown new.volume after.after after.shows (record {
+        unsealed = after.unsealed ∙ awaits.unsealed;
+        on_way = ap (λ (w : WindowState). w.objects) after.window_is ∙ one.none;
+        checkpoint =
+            after.newest one.is_checkpoint ∙ sym one.number ∙ awaits.number
+            ∙ ap (λ (w : WindowState). w.last) (sym after.window_is);
+      })
+
 module _ {R : Type 0} (state : R → ReceiptState) (job : JobState) (reply : Reply R) (old new : SteppedVolume)
     (of : CountedStep state (asks.JobFailed job) reply old new) (plain : PlainState) (shows : Shows old.volume plain)
     (taken : IsTaken job old.volume) where
@@ -348,7 +381,7 @@ module _ {R : Type 0} (state : R → ReceiptState) (job : JobState) (reply : Rep
 
   after_failed_by : IsStep state (asks.JobFailed job) reply plain old.volume new.volume
       ⊎ IsNoStep state (asks.JobFailed job) reply plain old.volume new.volume
-      → IsAfterPut (marked job.name.number false) plain new.volume
+      → IsAfterPut (marked job.name.number false) (λ after. Unit {0}) plain new.volume
   after_failed_by (inl s) =
       let ready : PlainState = passing s.left plain in
       let now : Fuse = fuse_in new.volume.log.commits.disk.budget in
@@ -362,6 +395,7 @@ module _ {R : Type 0} (state : R → ReceiptState) (job : JobState) (reply : Rep
         pins = refl;
         removal = refl;
         window_is = ap (λ (b : Bool). if b then marked n false plain.window else plain.window) was_started_is;
+        newest = tt;
       }
   after_failed_by (inr n) = (let may = n.may in let bad : ⊥ = cc in absurd bad)
 
@@ -489,10 +523,10 @@ seal_by state volume reply plain new left now false busy number valid has_is bus
       none = λ is. (nothing, omega (arith, nothing, empty));
     }
 
-sealed_lacks : (R : Type 0) (number : ℕ) → lacks_memory {R = R} (told.Sealed number) ≡ true → ⊥
+pub sealed_lacks : (R : Type 0) (number : ℕ) → lacks_memory {R = R} (told.Sealed number) ≡ true → ⊥
 sealed_lacks R number lacks = cc
 
-nothing_lacks : (R : Type 0) → lacks_memory {R = R} told.Nothing ≡ true → ⊥
+pub nothing_lacks : (R : Type 0) → lacks_memory {R = R} told.Nothing ≡ true → ⊥
 nothing_lacks R lacks = cc
 
 module _ {R : Type 0} (state : R → ReceiptState) (reply : Reply R) (old new : SteppedVolume)

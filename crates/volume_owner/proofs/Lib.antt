@@ -6,9 +6,12 @@ pub mod ReplyLemmas
 pub mod StepLemmas
 pub mod EventLeaves
 pub mod EnterLemmas
+pub mod PutLemmas
 pub mod HelpLemmas
+pub mod ClearLemmas
 pub mod ActLemmas
 pub mod CallLemmas
+pub mod RemoveLemmas
 pub mod BoundLemmas
 pub mod LoopLemmas
 pub mod ReadLemmas

@@ -8,6 +8,7 @@ use Rattle.lsvd_base.specs.Limits.{may_transfer}
 use Rattle.lsvd_fault.specs.Faults.{Counts}
 use Rattle.lsvd_device.specs.Calls.{Fuse}
 use Rattle.lsvd_objstore.specs.Store.{ReceiptState}
+use Rattle.object_uploads.specs.Order.{IsUploads}
 use Rattle.upload_window.specs.Window.{WindowState}
 use Rattle.refine_log.specs.Fuses.{fuse_in}
 use Rattle.plain_disk.specs.declared.event.PlainEvent.TheVariants as events
@@ -31,7 +32,8 @@ use Rattle.vol_core.specs.Events.{TellsRead, Tells}
 use Rattle.vol_core.specs.Step.{passing, IsStep, IsNoStep, HasItsBytes, lacks_memory, tells_fault, CountedStep}
 use Rattle.vol_core.proofs.StepLemmas.{passing_keeps}
 use Rattle.volume_owner.specs.Owner.{IsIdle}
-use Rattle.volume_owner.specs.Calls.{IsLengthOf, IsDurable, HasSectors, MakesSteps}
+use Rattle.volume_owner.specs.Calls.{IsLengthOf, IsDurable, HasNoneToRemove, HasSectors, MakesSteps}
+use Rattle.volume_owner.specs.Clearing.{HasAllPut}
 use Rattle.volume_owner.specs.Errors.{is_eio}
 use Rattle.volume_owner.specs.declared.error.OwnerError.{OwnerError}
 use Rattle.volume_owner.specs.declared.error.OwnerError.TheVariants as errors
@@ -43,6 +45,7 @@ use Rattle.volume_owner.proofs.TellsLemmas.{tells_flushed, tells_planned, tells_
 use Rattle.volume_owner.proofs.ReplyLemmas.{count_cases, plan_cases}
 use Rattle.volume_owner.proofs.StepLemmas.{shown_work, length_is, IsIdlePlain, shown_idle, idle_shown, quiet_makes}
 use Rattle.volume_owner.proofs.HelpLemmas.{is_silent, silent_faults}
+use Rattle.volume_owner.proofs.ClearLemmas.{LeavesPut, left_put, none_shown}
 
 -- ---- a flush
 
@@ -97,6 +100,23 @@ module _ {R : Type 0} (state : R → ReceiptState) (reply : Reply R) (old new : 
   -- what is left to seal and to put stays
   pub flush_work : work_of new.volume ≡ work_of old.volume
   flush_work = shown_work new.volume _ flushing.shows ∙ sym (shown_work old.volume plain shows)
+
+  -- what is all put stays so, and where no object may be removed, none may be after it
+  flush_leaves : LeavesPut plain new.volume
+  flush_leaves = record {
+    after = _;
+    shows = flushing.shows;
+    unsealed = refl;
+    window = refl;
+    checkpoint = refl;
+    pins = refl;
+  }
+
+  pub flush_put : HasAllPut old.volume → HasAllPut new.volume
+  flush_put = left_put old.volume new.volume plain shows flush_leaves
+
+  pub flush_none : IsUploads new.volume.objects.uploads → HasNoneToRemove old.volume → HasNoneToRemove new.volume
+  flush_none is none = none_shown new.volume _ is flushing.shows (none plain shows)
 
   -- it is told to be done
   pub flushed_is : (count : ℕ) → reply ≡ told.Flushed count → IsLengthOf count new.volume × IsDurable new.volume

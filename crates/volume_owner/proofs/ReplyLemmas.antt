@@ -10,7 +10,7 @@ use Rattle.object_uploads.specs.State.{JobState}
 use Rattle.read_plan.specs.Plan.{PlanState}
 use Rattle.vol_core.specs.Step.{tells_fault, lacks_memory}
 use Rattle.volume_owner.specs.declared.replies.Attempt.TheVariants.{Entered, Again}
-use Rattle.volume_owner.specs.Replies.{attempt_in, job_in, plan_in, count_in, seal_in}
+use Rattle.volume_owner.specs.Replies.{attempt_in, job_in, plan_in, count_in, seal_in, receipt_in}
 use Rattle.volume_owner.specs.Errors.{is_eio}
 use Rattle.volume_owner.specs.declared.error.OwnerError.{OwnerError}
 use Rattle.volume_owner.specs.declared.error.OwnerError.TheVariants as errors
@@ -301,6 +301,35 @@ count_cases told.Nothing = inr refl
 count_cases told.Busy = inr refl
 count_cases told.Fault = inr refl
 count_cases told.OutOfMemory = inr refl
+
+pub receipt_cases : {R : Type 0} (reply : Reply R)
+    → ((receipt : R) × (reply ≡ told.Removing receipt)) ⊎ (receipt_in reply ≡ None)
+receipt_cases (told.Entered n) = inr refl
+receipt_cases (told.NotEntered entry refusals.Range) = inr refl
+receipt_cases (told.NotEntered entry (refusals.Full why)) = inr refl
+receipt_cases (told.NotEntered entry (refusals.NoRoom needed left)) = inr refl
+receipt_cases (told.NotEntered entry refusals.Fault) = inr refl
+receipt_cases (told.NotEntered entry refusals.OutOfMemory) = inr refl
+receipt_cases (told.Flushed n) = inr refl
+receipt_cases (told.Planned plan) = inr refl
+receipt_cases told.Released = inr refl
+receipt_cases (told.NotReleased plan) = inr refl
+receipt_cases (told.Sealed n) = inr refl
+receipt_cases (told.Taken job) = inr refl
+receipt_cases (told.Done n) = inr refl
+receipt_cases (told.NotDone job receipt) = inr refl
+receipt_cases told.Returned = inr refl
+receipt_cases (told.NotReturned job) = inr refl
+receipt_cases (told.Removing receipt) = inl (receipt, refl)
+receipt_cases told.Removed = inr refl
+receipt_cases told.GivenBack = inr refl
+receipt_cases (told.NotGivenBack receipt) = inr refl
+receipt_cases (told.Told a b c d) = inr refl
+receipt_cases told.Range = inr refl
+receipt_cases told.Nothing = inr refl
+receipt_cases told.Busy = inr refl
+receipt_cases told.Fault = inr refl
+receipt_cases told.OutOfMemory = inr refl
 
 pub seal_cases : {R : Type 0} (reply : Reply R)
     → ((number : ℕ) × (reply ≡ told.Sealed number)) ⊎ ((reply ≡ told.Nothing) ⊎ (seal_in reply ≡ Err errors.OutOfMemory))

@@ -185,6 +185,77 @@ tells_planned state volume told.Busy read tells = let bad : ⊥ = cc in absurd b
 tells_planned state volume told.Fault read tells = let bad : ⊥ = cc in absurd bad
 tells_planned state volume told.OutOfMemory read tells = absurd tells
 
+-- that the removal of an object began
+tells_removing_refusal : (why : EntryRefusal) (number : ℕ) → TellsRefusal why (replies.Removing number) → ⊥
+tells_removing_refusal refusals.Range number tells = cc
+tells_removing_refusal (refusals.Full (full.Sectors sectors)) number tells = cc
+tells_removing_refusal (refusals.Full (full.Entries entries)) number tells = cc
+tells_removing_refusal (refusals.NoRoom needed left) number tells = cc
+tells_removing_refusal refusals.Fault number tells = cc
+tells_removing_refusal refusals.OutOfMemory number tells = tells
+
+pub tells_removing : {R : Type 0} (state : R → ReceiptState) (volume : VolumeState) (reply : Reply R) (number : ℕ)
+    → Tells state volume reply (replies.Removing number) → (receipt : R) × (reply ≡ told.Removing receipt)
+tells_removing state volume (told.Entered n) number tells = let bad : ⊥ = cc in absurd bad
+tells_removing state volume (told.NotEntered entry why) number tells = absurd (tells_removing_refusal why number tells)
+tells_removing state volume (told.Flushed n) number tells = let bad : ⊥ = cc in absurd bad
+tells_removing state volume (told.Planned plan) number tells = let is = tells.1 in let bad : ⊥ = cc in absurd bad
+tells_removing state volume told.Released number tells = let bad : ⊥ = cc in absurd bad
+tells_removing state volume (told.NotReleased plan) number tells = let bad : ⊥ = cc in absurd bad
+tells_removing state volume (told.Sealed n) number tells = let bad : ⊥ = cc in absurd bad
+tells_removing state volume (told.Taken job) number tells = let is = tells.0 in let bad : ⊥ = cc in absurd bad
+tells_removing state volume (told.Done n) number tells = let bad : ⊥ = cc in absurd bad
+tells_removing state volume (told.NotDone job receipt) number tells = let bad : ⊥ = cc in absurd bad
+tells_removing state volume told.Returned number tells = let bad : ⊥ = cc in absurd bad
+tells_removing state volume (told.NotReturned job) number tells = let bad : ⊥ = cc in absurd bad
+tells_removing state volume (told.Removing receipt) number tells = (receipt, refl)
+tells_removing state volume told.Removed number tells = let bad : ⊥ = cc in absurd bad
+tells_removing state volume told.GivenBack number tells = let bad : ⊥ = cc in absurd bad
+tells_removing state volume (told.NotGivenBack receipt) number tells = let bad : ⊥ = cc in absurd bad
+tells_removing state volume (told.Told a b c d) number tells = let bad : ⊥ = cc in absurd bad
+tells_removing state volume told.Range number tells = let bad : ⊥ = cc in absurd bad
+tells_removing state volume told.Nothing number tells = let bad : ⊥ = cc in absurd bad
+tells_removing state volume told.Busy number tells = let bad : ⊥ = cc in absurd bad
+tells_removing state volume told.Fault number tells = let bad : ⊥ = cc in absurd bad
+tells_removing state volume told.OutOfMemory number tells = absurd tells
+
+-- the counts
+tells_told_refusal : (why : EntryRefusal) (writes sealed frontier checkpoint : ℕ)
+    → TellsRefusal why (replies.Told writes sealed frontier checkpoint) → ⊥
+tells_told_refusal refusals.Range w s f k tells = cc
+tells_told_refusal (refusals.Full (full.Sectors sectors)) w s f k tells = cc
+tells_told_refusal (refusals.Full (full.Entries entries)) w s f k tells = cc
+tells_told_refusal (refusals.NoRoom needed left) w s f k tells = cc
+tells_told_refusal refusals.Fault w s f k tells = cc
+tells_told_refusal refusals.OutOfMemory w s f k tells = tells
+
+pub tells_told : {R : Type 0} (state : R → ReceiptState) (volume : VolumeState) (reply : Reply R)
+    (writes sealed frontier checkpoint : ℕ)
+    → Tells state volume reply (replies.Told writes sealed frontier checkpoint)
+    → reply ≡ told.Told writes sealed frontier checkpoint
+tells_told state volume (told.Entered n) w s f k tells = let bad : ⊥ = cc in absurd bad
+tells_told state volume (told.NotEntered entry why) w s f k tells = absurd (tells_told_refusal why w s f k tells)
+tells_told state volume (told.Flushed n) w s f k tells = let bad : ⊥ = cc in absurd bad
+tells_told state volume (told.Planned plan) w s f k tells = let is = tells.1 in let bad : ⊥ = cc in absurd bad
+tells_told state volume told.Released w s f k tells = let bad : ⊥ = cc in absurd bad
+tells_told state volume (told.NotReleased plan) w s f k tells = let bad : ⊥ = cc in absurd bad
+tells_told state volume (told.Sealed n) w s f k tells = let bad : ⊥ = cc in absurd bad
+tells_told state volume (told.Taken job) w s f k tells = let is = tells.0 in let bad : ⊥ = cc in absurd bad
+tells_told state volume (told.Done n) w s f k tells = let bad : ⊥ = cc in absurd bad
+tells_told state volume (told.NotDone job receipt) w s f k tells = let bad : ⊥ = cc in absurd bad
+tells_told state volume told.Returned w s f k tells = let bad : ⊥ = cc in absurd bad
+tells_told state volume (told.NotReturned job) w s f k tells = let bad : ⊥ = cc in absurd bad
+tells_told state volume (told.Removing receipt) w s f k tells = let is = tells.0 in let bad : ⊥ = cc in absurd bad
+tells_told state volume told.Removed w s f k tells = let bad : ⊥ = cc in absurd bad
+tells_told state volume told.GivenBack w s f k tells = let bad : ⊥ = cc in absurd bad
+tells_told state volume (told.NotGivenBack receipt) w s f k tells = let bad : ⊥ = cc in absurd bad
+tells_told state volume (told.Told a b c d) w s f k tells = cc
+tells_told state volume told.Range w s f k tells = let bad : ⊥ = cc in absurd bad
+tells_told state volume told.Nothing w s f k tells = let bad : ⊥ = cc in absurd bad
+tells_told state volume told.Busy w s f k tells = let bad : ⊥ = cc in absurd bad
+tells_told state volume told.Fault w s f k tells = let bad : ⊥ = cc in absurd bad
+tells_told state volume told.OutOfMemory w s f k tells = absurd tells
+
 -- that a call of the device failed
 pub tells_failed : {R : Type 0} (state : R → ReceiptState) (volume : VolumeState) (reply : Reply R)
     → Tells state volume reply replies.Fault → tells_fault reply ≡ true

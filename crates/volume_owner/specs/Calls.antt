@@ -1,5 +1,5 @@
 -- Contract: what a call of an owner does to its volume and to the store, told by each plain volume that the volume showed.
-use Rattle.std.specs.Prelude.{◌≡◌, ℕ, ◌+◌, ◌/◌, ◌≤◌, ◌⊎◌, ◌↔◌, Bool, true, false, IsSome, List, [], ◌∷◌, length}
+use Rattle.std.specs.Prelude.{◌≡◌, ℕ, ◌+◌, ◌/◌, ◌≤◌, ◌⊎◌, ◌↔◌, Bool, true, false, None, IsSome, List, [], ◌∷◌, length}
 use Rattle.std.specs.Prelude.{Result, Ok, Err, IfOk, OnOk, IsErrOf, is_err}
 use Rattle.lsvd_base.specs.declared.entry.Entry.{Entry}
 use Rattle.lsvd_base.specs.Limits.{may_transfer}
@@ -11,6 +11,7 @@ use Rattle.lsvd_names.specs.Names.{numbered_name}
 use Rattle.lsvd_objstore.specs.Objects.{Objects, found}
 use Rattle.lsvd_objstore.specs.Store.{StoreState, ReceiptState, Becomes}
 use Rattle.plain_disk.specs.Sectors.{sectors_at}
+use Rattle.plain_disk.specs.Removals.{to_remove}
 use Rattle.plain_disk.specs.State.{PlainState, history_length, image_now}
 use Rattle.stopped_volume.specs.Device.{CacheOwner}
 use Rattle.vol_core.specs.declared.event.Event.TheVariants as events
@@ -18,7 +19,8 @@ use Rattle.vol_core.specs.Volume.{VolumeState, SteppedVolume}
 use Rattle.vol_core.specs.Shows.{Shows}
 use Rattle.vol_core.specs.Step.{HasSameSizes}
 use Rattle.vol_core.specs.Stops.{HasOwnCommits}
-use Rattle.vol_core.specs.View.{log_entries, objects_on_way, unsealed_entries, volume_disk, volume_geometry, volume_uuid}
+use Rattle.vol_core.specs.View.{acknowledged_checkpoint, last_object, log_entries, objects_on_way, unsealed_entries}
+use Rattle.vol_core.specs.View.{volume_disk, volume_geometry, volume_uuid}
 use Rattle.volume_owner.specs.declared.error.OwnerError.{OwnerError}
 use Rattle.volume_owner.specs.declared.error.OwnerError.TheVariants.{Range}
 use Rattle.volume_owner.specs.Acts.{moment_of, IsMadeOfActs, MakesStep}
@@ -44,10 +46,18 @@ IsDurableTo seq volume = (plain : PlainState) → Shows volume plain → seq ≤
 abbrev pub IsDurable : VolumeState → Type 0
 IsDurable volume = (plain : PlainState) → Shows volume plain → IsDurableTo (history_length plain) volume
 
--- Each entry of a volume's history is in an object, each object is acknowledged, and each entry is committed.
+-- no object of a volume may be removed: so each that stands in its store but the newest checkpoint and later ones is one that
+-- this maps, or that a plan pins
+abbrev pub HasNoneToRemove : VolumeState → Type 0
+HasNoneToRemove volume = (plain : PlainState) → Shows volume plain → to_remove plain ≡ None
+
+-- Each entry of a volume's history is in an object, each object is acknowledged, the newest of them is a checkpoint, and none
+-- may be removed; and each entry is committed.
 pub record IsDrained (volume : VolumeState) : Type 0 where
   pub unsealed : unsealed_entries volume ≡ []
   pub on_way : objects_on_way volume ≡ []
+  pub checkpoint : acknowledged_checkpoint volume ≡ last_object volume
+  pub none : HasNoneToRemove volume
   pub durable : IsDurable volume
 
 -- ---- contents

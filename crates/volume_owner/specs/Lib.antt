@@ -6,3 +6,4 @@ pub mod Standing
 pub mod Errors
 pub mod Replies
 pub mod Helping
+pub mod Clearing

@@ -1,5 +1,5 @@
 -- For this crate's own clauses: what a reply of the volume tells of what it was asked for.
-use Rattle.std.specs.Prelude.{ℕ, Bool, true, false, Option, Some, None, Result, Ok, Err}
+use Rattle.std.specs.Prelude.{ℕ, ◌==◌, Bool, true, false, Option, Some, None, Result, Ok, Err}
 use Rattle.object_uploads.specs.State.{JobState}
 use Rattle.read_plan.specs.Plan.{PlanState}
 use Rattle.vol_core.specs.declared.reply.EntryRefusal.TheVariants as refusals
@@ -41,3 +41,13 @@ abbrev pub seal_in : {R : Type 0} → Reply R → Result Bool OwnerError
 seal_in (told.Sealed number) = Ok true
 seal_in told.Nothing = Ok false
 seal_in reply = Err errors.OutOfMemory
+
+-- of a status: the newest object that was sealed is a checkpoint
+abbrev pub tells_checkpoint : {R : Type 0} → Reply R → Bool
+tells_checkpoint (told.Told writes sealed frontier checkpoint) = sealed == checkpoint
+tells_checkpoint reply = false
+
+-- of a removal
+abbrev pub receipt_in : {R : Type 0} → Reply R → Option R
+receipt_in (told.Removing receipt) = Some receipt
+receipt_in reply = None

@@ -5,6 +5,7 @@ ghost use Rattle.vol_core.specs.View.{objects_on_way, volume_disk};
 ghost use Rattle.volume_owner.specs.Owner.{IsIdle};
 ghost use Rattle.volume_owner.specs.Acts.{MakesStep};
 ghost use Rattle.volume_owner.specs.Calls.{MakesSteps, IsCall};
+ghost use Rattle.volume_owner.specs.Clearing.{AwaitsCheckpoint, HasAllPut};
 ghost use Rattle.volume_owner.specs.Errors.{is_eio};
 ghost use Rattle.volume_owner.specs.Helping.{work_of, most_work, HasHelped, IsTaken};
 
@@ -30,6 +31,7 @@ pub(crate) fn help<D: Disk, R: Receipt, S: Store<Receipt = R>>(
     ensures help { IsCall R.state 2 [] (is_eio result) volume.old volume.new (S.state store.old)
         (S.state store.new) }
     ensures less { IfOk result (λ has_helped. HasHelped has_helped volume.old.volume volume.new.volume) }
+    ensures put { AwaitsCheckpoint volume.old.volume → OnOk result (HasAllPut volume.new.volume) }
     ensures work { work_of volume.old.volume ≤ most_work }
     ensures error { IsErrOf result OwnerError.Range → ⊥ }
     ensures idle { IsIdle volume.new.volume }
@@ -55,6 +57,7 @@ fn put<D: Disk, R: Receipt, S: Store<Receipt = R>>(
     ensures call { IsCall R.state 1 [] (is_eio result) volume.old volume.new (S.state store.old)
         (S.state store.new) }
     ensures less { OnOk result (work_of volume.new.volume < work_of volume.old.volume) }
+    ensures put { AwaitsCheckpoint volume.old.volume → OnOk result (HasAllPut volume.new.volume) }
     ensures error { IsErrOf result OwnerError.Range → ⊥ }
     ensures idle { IsIdle volume.new.volume }
 {

@@ -4,13 +4,15 @@
 //!
 //! Its contract: a write or a zeroing that is answered is the one entry that the call added to the history,
 //! and one that is refused adds none; a flush that is answered has committed the whole history; a drain that
-//! is answered has done so too, and left nothing to seal or to put; a read gives the sectors of the history.
-//! Each call is made of steps of the volume, puts of its objects and gets, over which the store goes on
-//! standing for the volume. `Eio` is answered exactly where one call of the disk or of the store failed. It
-//! stands on `vol_core` for the volume, on `object_uploads` and `read_plan` for puts and plans, on
-//! `lsvd_objstore` for the store, and on `refine_store` for what stands in it.
+//! is answered has done so too, left nothing to seal or to put behind a checkpoint, and no object to remove;
+//! a read gives the sectors of the history. Each call is made of steps of the volume, puts of its objects,
+//! removals and gets, over which the store goes on standing for the volume. `Eio` is answered exactly where
+//! one call of the disk or of the store failed. It stands on `vol_core` for the volume, on `object_uploads`
+//! and `read_plan` for puts and plans, on `lsvd_objstore` for the store, and on `refine_store` for what
+//! stands in it.
 #![tactic(auto)]
 
+mod clearing;
 mod draining;
 mod entering;
 mod error;

@@ -94,12 +94,13 @@ impl<D: Disk, R: Receipt> Owner<D, R> {
         flush(&mut self.volume)
     }
 
-    /// Seals and puts until no entry is unsealed and each object is acknowledged, and then flushes. Answers
+    /// Seals and puts until no entry is unsealed and each object is acknowledged, seals and puts a checkpoint
+    /// where the newest object is none, removes each object that no mount needs, and then flushes. Answers
     /// how many entries the history has. A server calls it before it ends.
     ///
     /// `Eio` comes where a call of the disk or of the store failed, which that counted, and `OutOfMemory`
-    /// where memory ran out; `Range` never comes. After an error some of this may be done, and the call may
-    /// be made again. Nothing is entered.
+    /// where memory ran out, or where 2^37 objects were removed and there may be more; `Range` never comes.
+    /// After an error some of this may be done, and the call may be made again. Nothing is entered.
     pub fn drain<S: Store<Receipt = R>>(
         &mut self,
         alloc: Global,

@@ -2,7 +2,8 @@ ghost use Rattle.std.specs.Prelude.{◌≡◌, ◌<◌, ◌≤◌, ◌/◌, ◌%
 ghost use Rattle.vol_core.specs.declared.event.Event.TheVariants as events;
 ghost use Rattle.vol_core.specs.Shows.{max_number};
 ghost use Rattle.volume_owner.specs.Owner.{IsIdle, max_steps};
-ghost use Rattle.volume_owner.specs.Calls.{FlushOf, ReadOf};
+ghost use Rattle.volume_owner.specs.Calls.{FlushOf, HasNoneToRemove, ReadOf};
+ghost use Rattle.volume_owner.specs.Clearing.{HasAllPut};
 ghost use Rattle.volume_owner.specs.Helping.{work_of};
 
 use crate::error::OwnerError;
@@ -48,9 +49,13 @@ pub(crate) fn flush<D: Disk, R: Receipt>(volume: &mut Volume<D, R>) -> Result<u6
     requires idle { IsIdle volume.old.volume }
     ensures flush { FlushOf R.state result volume.old volume.new }
     ensures work { work_of volume.new.volume ≡ work_of volume.old.volume }
+    ensures put { HasAllPut volume.old.volume → HasAllPut volume.new.volume }
+    ensures none { HasNoneToRemove volume.old.volume → HasNoneToRemove volume.new.volume }
     ensures idle { IsIdle volume.new.volume }
 {
-    match count_of(volume.step(Event::Flush)) {
+    let count = count_of(volume.step(Event::Flush));
+    volume.is_volume();
+    match count {
         Some(count) => Ok(count),
         None => Err(Failed),
     }

@@ -1,5 +1,6 @@
 ghost use Rattle.std.specs.Prelude.{◌≡◌};
 ghost use Rattle.volume_owner.specs.Replies.{attempt_in, job_in, plan_in, count_in, seal_in};
+ghost use Rattle.volume_owner.specs.Replies.{tells_checkpoint, receipt_in};
 
 use crate::error::OwnerError;
 use lsvd_base::Entry;
@@ -105,6 +106,37 @@ pub(crate) fn seal_of<R: Receipt>(reply: Reply<R>) -> Result<bool, OwnerError>
         other => {
             drop(other);
             Err(OwnerError::OutOfMemory)
+        }
+    }
+}
+
+/// Whether a reply to the question for the status tells that the newest object that was sealed is a
+/// checkpoint.
+pub(crate) fn is_newest_checkpoint<R: Receipt>(reply: Reply<R>) -> bool
+    ensures { result ≡ tells_checkpoint reply }
+{
+    match reply {
+        Reply::Told {
+            sealed,
+            checkpoint,
+            ..
+        } => sealed == checkpoint,
+        other => {
+            drop(other);
+            false
+        }
+    }
+}
+
+/// What the store gave for the object that a reply hands out for removal, if it does.
+pub(crate) fn receipt_of<R: Receipt>(reply: Reply<R>) -> Option<R>
+    ensures { result ≡ receipt_in reply }
+{
+    match reply {
+        Reply::Removing(receipt) => Some(receipt),
+        other => {
+            drop(other);
+            None
         }
     }
 }

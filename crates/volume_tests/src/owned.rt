@@ -101,7 +101,8 @@ fn zero(alloc: Global, owner: &mut MemOwner, store: &mut Faulty) -> Result<u64, 
     owner.zero(alloc, store, 8, 8).map_err(error_of)
 }
 
-// Drains: what is left is put, and no more than that.
+// Drains: what is left is put, with a checkpoint behind it, what no mount needs is removed, and no more than
+// that.
 fn tell_drains(
     rt: &HostRuntime,
     owner: &mut MemOwner,

@@ -1,93 +1,141 @@
-use Rattle.std.proofs.Common.{arith, ℕ, Bool, true, false, [], ap, subst, Err}
+use Rattle.std.proofs.Common.{arith, ℕ, ◌+◌, true, false, [], ap, subst, Err}
 use Rattle.lsvd_objstore.specs.Store.{StoreState}
 use Rattle.vol_core.specs.Volume.{SteppedVolume}
 use Rattle.volume_owner.specs.Owner.{most_of_call}
 use Rattle.volume_owner.specs.Calls.{IsCall}
+use Rattle.volume_owner.specs.Clearing.{most_of_helps, most_of_removals}
 use Rattle.volume_owner.specs.Errors.{is_eio}
-use Rattle.volume_owner.specs.Helping.{HasHelped}
 use Rattle.volume_owner.specs.declared.error.OwnerError.{OwnerError}
 use Rattle.volume_owner.specs.declared.error.OwnerError.TheVariants as errors
-use Rattle.volume_owner.proofs.CallLemmas.{handed_on, same_eio, drain_counted, drain_failed}
-use Rattle.volume_owner.proofs.LoopLemmas.{helped_first, helped_few, helped_ends, helped_more, one_help, help_and_flush}
-use Rattle.volume_owner.proofs.LoopLemmas.{none_is_drained}
+use Rattle.volume_owner.proofs.CallLemmas.{handed_on, same_eio, drain_counted, drain_failed, call_then, call_fewer}
+use Rattle.volume_owner.proofs.LoopLemmas.{nothing_left, all_put_is_drained, cleared_call, clear_and_flush}
 use Rattle.volume_owner.proofs.draining.drain.Goals as goal
 
-pub loop-init : goal.loop-init
-loop-init g c = helped_first g.R.Receipt.state c.args.volume.now (g.S.Store.state c.args.store.now) c.requires.idle
+pub put_checkpoint-requires : goal.put_checkpoint-requires
+put_checkpoint-requires g c =
+    let helped = c.in_ok-help_all.ensures in
+    let left = nothing_left c.help_all.new.volume.volume helped.none in
+    record {
+      steps = (let made = helped.call.steps.steps in let few = c.requires.steps in omega (arith, made, few));
+      idle = helped.idle;
+      unsealed = left.0;
+      none = left.1;
+    }
 
-pub help-requires-clause-steps : goal.help-requires-clause-steps
-help-requires-clause-steps g c =
-    let old : SteppedVolume = c.args.volume.now in
-    let now : SteppedVolume = c.loop.volume in
-    let first : StoreState = g.S.Store.state c.args.store.now in
-    let second : StoreState = g.S.Store.state c.loop.store in
-    let few = helped_few g.R.Receipt.state old now first second c.loop.invariant c.requires.steps in
-    omega (arith, few)
+pub remove_all-requires : goal.remove_all-requires
+remove_all-requires g c =
+    let put = c.in_ok-put_checkpoint.ensures in
+    record {
+      steps =
+          (let made = c.in_ok-help_all.ensures.call.steps.steps in
+          let more = put.call.steps.steps in
+          let few = c.requires.steps in
+          omega (arith, made, more, few));
+      idle = put.idle;
+      put = put.put;
+    }
 
-pub returns-in_err-help : goal.returns-in_err-help
-returns-in_err-help g c =
+pub flush-requires : goal.flush-requires
+flush-requires g c = record {
+  steps =
+      (let made = c.in_ok-help_all.ensures.call.steps.steps in
+      let more = c.in_ok-put_checkpoint.ensures.call.steps.steps in
+      let removed = c.in_ok-remove_all.ensures.call.steps.steps in
+      let few = c.requires.steps in
+      omega (arith, made, more, removed, few));
+  idle = c.in_ok-remove_all.ensures.idle;
+}
+
+pub returns-in_err-help_all : goal.returns-in_err-help_all
+returns-in_err-help_all g c =
     let state = g.R.Receipt.state in
     let old : SteppedVolume = c.args.volume.now in
-    let now : SteppedVolume = c.loop.volume in
-    let new : SteppedVolume = c.help.new.volume in
+    let new : SteppedVolume = c.help_all.new.volume in
     let first : StoreState = g.S.Store.state c.args.store.now in
-    let second : StoreState = g.S.Store.state c.loop.store in
-    let third : StoreState = g.S.Store.state c.help.new.store in
-    let error : OwnerError = c.in_err-help.field-0.0 in
-    let failed = is_eio {T = Bool} (Err error) in
-    let helped = c.in_err-help.ensures in
-    let fails = helped_ends state old now first second c.loop.invariant [] failed new third helped.work
-    (one_help state failed now new second third helped.help) in
+    let second : StoreState = g.S.Store.state c.help_all.new.store in
+    let error : OwnerError = c.in_err-help_all.field-0.0 in
+    let helped = c.in_err-help_all.ensures in
+    let result = c.from_residual.result in
     record {
       drain =
-          drain_failed state c.from_residual.result error old new first third
-          (handed_on c.from_residual.result error c.from_residual.ensures.1) (λ range. helped.error (ap Err range))
-          (subst (λ b. IsCall state most_of_call [] b old new first third) (same_eio Bool ℕ error) fails);
+          drain_failed state result error old new first second (handed_on result error c.from_residual.ensures.1)
+          (λ range. helped.error (ap Err range))
+          (subst (λ b. IsCall state most_of_call [] b old new first second) (same_eio (Unit {0}) ℕ error)
+          (call_fewer state most_of_helps most_of_call [] (is_eio {T = Unit {0}} (Err error)) old new first second (omega arith)
+          helped.call));
       idle = helped.idle;
     }
 
-pub loop-preserved : goal.loop-preserved
-loop-preserved g c =
+pub returns-in_err-put_checkpoint : goal.returns-in_err-put_checkpoint
+returns-in_err-put_checkpoint g c =
+    let state = g.R.Receipt.state in
     let old : SteppedVolume = c.args.volume.now in
-    let now : SteppedVolume = c.loop.volume in
-    let new : SteppedVolume = c.help.new.volume in
+    let mid : SteppedVolume = c.help_all.new.volume in
+    let new : SteppedVolume = c.put_checkpoint.new.volume in
     let first : StoreState = g.S.Store.state c.args.store.now in
-    let second : StoreState = g.S.Store.state c.loop.store in
-    let third : StoreState = g.S.Store.state c.help.new.store in
-    let less = subst (λ b. HasHelped b now.volume new.volume) c.if-branch.true c.in_ok-help.ensures.less in
-    helped_more g.R.Receipt.state old now first second c.loop.invariant new third c.in_ok-help.ensures.work
-    (one_help g.R.Receipt.state false now new second third c.in_ok-help.ensures.help)
-    less c.in_ok-help.ensures.idle
+    let second : StoreState = g.S.Store.state c.help_all.new.store in
+    let third : StoreState = g.S.Store.state c.put_checkpoint.new.store in
+    let error : OwnerError = c.in_err-put_checkpoint.field-0.0 in
+    let failed = is_eio {T = Unit {0}} (Err error) in
+    let put = c.in_err-put_checkpoint.ensures in
+    let result = c.from_residual-in_err-put_checkpoint.result in
+    record {
+      drain =
+          drain_failed state result error old new first third
+          (handed_on result error c.from_residual-in_err-put_checkpoint.ensures.1) (λ range. put.error (ap Err range))
+          (subst (λ b. IsCall state most_of_call [] b old new first third) (same_eio (Unit {0}) ℕ error)
+          (call_fewer state (most_of_helps + 4) most_of_call [] failed old new first third (omega arith)
+          (call_then state most_of_helps 4 [] failed old mid new first second third c.in_ok-help_all.ensures.call put.call)));
+      idle = put.idle;
+    }
 
-pub flush-requires-clause-steps : goal.flush-requires-clause-steps
-flush-requires-clause-steps g c =
+pub returns-in_err-remove_all : goal.returns-in_err-remove_all
+returns-in_err-remove_all g c =
+    let state = g.R.Receipt.state in
     let old : SteppedVolume = c.args.volume.now in
-    let now : SteppedVolume = c.loop.volume in
+    let mid : SteppedVolume = c.help_all.new.volume in
+    let put : SteppedVolume = c.put_checkpoint.new.volume in
+    let new : SteppedVolume = c.remove_all.new.volume in
     let first : StoreState = g.S.Store.state c.args.store.now in
-    let second : StoreState = g.S.Store.state c.loop.store in
-    let few = helped_few g.R.Receipt.state old now first second c.loop.invariant c.requires.steps in
-    let two = c.in_ok-help.ensures.help.steps.steps in
-    omega (arith, few, two)
+    let second : StoreState = g.S.Store.state c.help_all.new.store in
+    let third : StoreState = g.S.Store.state c.put_checkpoint.new.store in
+    let fourth : StoreState = g.S.Store.state c.remove_all.new.store in
+    let error : OwnerError = c.in_err-remove_all.field-0.0 in
+    let failed = is_eio {T = Unit {0}} (Err error) in
+    let removed = c.in_err-remove_all.ensures in
+    let result = c.from_residual-in_err-remove_all.result in
+    record {
+      drain =
+          drain_failed state result error old new first fourth
+          (handed_on result error c.from_residual-in_err-remove_all.ensures.1) (λ range. removed.error (ap Err range))
+          (subst (λ b. IsCall state most_of_call [] b old new first fourth) (same_eio (Unit {0}) ℕ error)
+          (cleared_call state most_of_removals failed old mid put new first second third fourth (omega arith)
+          c.in_ok-help_all.ensures.call c.in_ok-put_checkpoint.ensures.call removed.call));
+      idle = removed.idle;
+    }
 
 pub returns-in_err-flush : goal.returns-in_err-flush
 returns-in_err-flush g c =
     let state = g.R.Receipt.state in
     let old : SteppedVolume = c.args.volume.now in
-    let now : SteppedVolume = c.loop.volume in
-    let mid : SteppedVolume = c.help.new.volume in
+    let mid : SteppedVolume = c.help_all.new.volume in
+    let put : SteppedVolume = c.put_checkpoint.new.volume in
+    let clear : SteppedVolume = c.remove_all.new.volume in
     let new : SteppedVolume = c.flush.new.volume in
     let first : StoreState = g.S.Store.state c.args.store.now in
-    let second : StoreState = g.S.Store.state c.loop.store in
-    let third : StoreState = g.S.Store.state c.help.new.store in
-    let helped = c.in_ok-help.ensures in
+    let second : StoreState = g.S.Store.state c.help_all.new.store in
+    let third : StoreState = g.S.Store.state c.put_checkpoint.new.store in
+    let fourth : StoreState = g.S.Store.state c.remove_all.new.store in
     let flushed = c.in_err-flush.ensures.flush in
     let result = c.from_residual-in_err-flush.result in
     record {
       drain =
-          drain_failed state result errors.Eio old new first third
+          drain_failed state result errors.Eio old new first fourth
           (handed_on result errors.Eio c.from_residual-in_err-flush.ensures.1) (λ range. cc)
-          (helped_ends state old now first second c.loop.invariant [] true new third helped.work
-          (help_and_flush state true now mid new second third helped.help flushed.step flushed.steps flushed.faults));
+          (cleared_call state (most_of_removals + 1) true old mid put new first second third fourth (omega arith)
+          c.in_ok-help_all.ensures.call c.in_ok-put_checkpoint.ensures.call
+          (clear_and_flush state true put clear new third fourth c.in_ok-remove_all.ensures.call flushed.step flushed.steps
+          flushed.faults));
       idle = c.in_err-flush.ensures.idle;
     }
 
@@ -95,20 +143,24 @@ pub returns : goal.returns
 returns g c =
     let state = g.R.Receipt.state in
     let old : SteppedVolume = c.args.volume.now in
-    let now : SteppedVolume = c.loop.volume in
-    let mid : SteppedVolume = c.help.new.volume in
+    let mid : SteppedVolume = c.help_all.new.volume in
+    let put : SteppedVolume = c.put_checkpoint.new.volume in
+    let clear : SteppedVolume = c.remove_all.new.volume in
     let new : SteppedVolume = c.flush.new.volume in
     let first : StoreState = g.S.Store.state c.args.store.now in
-    let second : StoreState = g.S.Store.state c.loop.store in
-    let third : StoreState = g.S.Store.state c.help.new.store in
-    let helped = c.in_ok-help.ensures in
+    let second : StoreState = g.S.Store.state c.help_all.new.store in
+    let third : StoreState = g.S.Store.state c.put_checkpoint.new.store in
+    let fourth : StoreState = g.S.Store.state c.remove_all.new.store in
     let flushed = c.in_ok-flush.ensures.flush in
-    let none = subst (λ b. HasHelped b now.volume mid.volume) c.if-branch.false helped.less in
+    let removed = c.in_ok-remove_all.ensures in
     record {
       drain =
-          drain_counted state _ old new first third
-          (helped_ends state old now first second c.loop.invariant [] false new third helped.work
-          (help_and_flush state false now mid new second third helped.help flushed.step flushed.steps flushed.faults))
-          flushed.count (none_is_drained now.volume mid.volume new.volume none c.in_ok-flush.ensures.work flushed.durable);
+          drain_counted state _ old new first fourth
+          (cleared_call state (most_of_removals + 1) false old mid put new first second third fourth (omega arith)
+          c.in_ok-help_all.ensures.call c.in_ok-put_checkpoint.ensures.call
+          (clear_and_flush state false put clear new third fourth removed.call flushed.step flushed.steps flushed.faults))
+          flushed.count
+          (all_put_is_drained new.volume (c.in_ok-flush.ensures.put removed.put) (c.in_ok-flush.ensures.none removed.none)
+          flushed.durable);
       idle = c.in_ok-flush.ensures.idle;
     }

@@ -10,7 +10,7 @@ use Rattle.volume_owner.specs.Helping.{work_of}
 use Rattle.volume_owner.specs.declared.error.OwnerError.{OwnerError}
 use Rattle.volume_owner.specs.declared.error.OwnerError.TheVariants as errors
 use Rattle.volume_owner.proofs.CallLemmas.{handed_on, same_eio, told_of_sizes, enter_refused, enter_counted, enter_failed}
-use Rattle.volume_owner.proofs.LoopLemmas.{helped_first, helped_some, helped_few, helped_ends, helped_more}
+use Rattle.volume_owner.proofs.LoopLemmas.{helped_first, helped_some, helped_few, helped_ends_call, helped_more}
 use Rattle.volume_owner.proofs.LoopLemmas.{one_attempt, attempt_and_help}
 use Rattle.volume_owner.proofs.entering.enter.Goals as goal
 
@@ -62,7 +62,7 @@ returns-in-Entered g c =
     let is = c.in-Entered.ensures in
     let call =
     subst (λ e. IsCall state most_of_call (e ∷ []) false old new first second) c.loop-count.invariant.0
-    (helped_ends state old now first second c.loop-count.invariant.1 (left ∷ []) false new second is.work
+    (helped_ends_call state old now first second c.loop-count.invariant.1 (left ∷ []) false new second is.work
     (one_attempt state left (left ∷ []) false now new second is.step is.steps is.faults)) in
     record {
       enter = enter_counted state entry count old new first second inside call (is.count count refl);
@@ -84,7 +84,7 @@ returns-in-Failed g c =
     record {
       enter =
           enter_failed state entry (Err errors.Eio) errors.Eio old new first second refl (λ range. cc) inside
-          (helped_ends state old now first second c.loop-count.invariant.1 [] true new second is.work
+          (helped_ends_call state old now first second c.loop-count.invariant.1 [] true new second is.work
           (one_attempt state c.loop-count.left [] true now new second is.step is.steps is.faults));
       idle = is.idle;
     }
@@ -104,7 +104,7 @@ returns-in-OutOfMemory g c =
     record {
       enter =
           enter_failed state entry (Err errors.OutOfMemory) errors.OutOfMemory old new first second refl (λ range. cc) inside
-          (helped_ends state old now first second c.loop-count.invariant.1 [] false new second is.work
+          (helped_ends_call state old now first second c.loop-count.invariant.1 [] false new second is.work
           (one_attempt state c.loop-count.left [] false now new second is.step is.steps is.faults));
       idle = is.idle;
     }
@@ -154,7 +154,7 @@ returns-in_err-help g c =
     let inside = told_of_sizes (λ sizes. is_in_range sizes entry) old.volume.objects.batch.geometry c.geometry.result
     c.in_range.result true c.geometry.ensures.is c.in_range.ensures c.if-not-in_range.false in
     let tried = c.in-Again.ensures in
-    let fails = helped_ends state old now first second c.loop-count.invariant.1 [] failed new third tried.work
+    let fails = helped_ends_call state old now first second c.loop-count.invariant.1 [] failed new third tried.work
     (attempt_and_help state c.loop-count.left failed now mid new second third tried.step tried.steps tried.faults
     c.in_err-help.ensures.help) in
     record {

@@ -1,9 +1,10 @@
 use Rattle.std.proofs.Common.{arith, ◌≡◌, ◌<◌, Bool, false, [], refl, sym, ◌∙◌, ap, subst, Err}
-use Rattle.std.specs.Prelude.{Result, IfOk}
+use Rattle.std.specs.Prelude.{Result, IfOk, OnOk}
 use Rattle.lsvd_objstore.specs.Store.{StoreState}
 use Rattle.vol_core.specs.declared.event.Event.TheVariants as asks
 use Rattle.vol_core.specs.Volume.{SteppedVolume}
 use Rattle.volume_owner.specs.Calls.{IsCall}
+use Rattle.volume_owner.specs.Clearing.{HasAllPut}
 use Rattle.volume_owner.specs.Errors.{is_eio}
 use Rattle.volume_owner.specs.declared.error.OwnerError.{OwnerError}
 use Rattle.volume_owner.specs.declared.error.OwnerError.TheVariants as errors
@@ -12,7 +13,7 @@ use Rattle.volume_owner.proofs.ActLemmas.{step_act, step_acts}
 use Rattle.volume_owner.proofs.BoundLemmas.{work_bound}
 use Rattle.volume_owner.proofs.CallLemmas.{quiet_call, call_then, call_ends_none, same_eio, memory_alone, memory_no_range}
 use Rattle.volume_owner.proofs.CallLemmas.{handed_on}
-use Rattle.volume_owner.proofs.HelpLemmas.{take_makes, take_faults, handed_job, taken_is, none_taken, helped_as}
+use Rattle.volume_owner.proofs.HelpLemmas.{take_makes, take_faults, take_awaits, handed_job, taken_is, none_taken, helped_as}
 use Rattle.volume_owner.proofs.helping.help.Goals as goal
 
 pub put-requires-clause-job : goal.put-requires-clause-job
@@ -51,6 +52,7 @@ returns-in_err-put-in-Some g c =
           (take_makes state reply old mid of plain shows) (take_faults state reply old mid of plain shows)) put.call));
       less =
           subst (λ (r : Result Bool OwnerError). IfOk r (λ has_helped. HasHelped has_helped old.volume last.volume)) (sym is) tt;
+      put = λ awaits. subst (λ (r : Result Bool OwnerError). OnOk r (HasAllPut last.volume)) (sym is) tt;
       work = work_bound old.volume plain shows c.requires.idle;
       error = λ range. (let same : error ≡ errors.Range = cc in put.error (ap Err same));
       idle = put.idle;
@@ -77,6 +79,7 @@ returns-in_ok-put-in-Some g c =
           (quiet_call state 1 [] old mid first (step_act state asks.TakeJob reply [] old mid first of tt refl)
           (take_makes state reply old mid of plain shows) (take_faults state reply old mid of plain shows)) put.call;
       less = subst (λ w. work_of last.volume < w) taken.1 put.less;
+      put = λ awaits. put.put (take_awaits state reply old mid of plain shows awaits);
       work = work_bound old.volume plain shows c.requires.idle;
       error = λ range. cc;
       idle = put.idle;
@@ -120,6 +123,10 @@ returns-in-None g c =
           (quiet_call state 1 [] mid last first
           (step_acts state asks.Seal [] mid last first (λ volume s. tt) sealed.step) sealed.steps sealed.faults));
       less = helped_as c.seal.result old.volume mid.volume last.volume left.2 sealed.less;
+      put = λ awaits.
+          (let one = (take_awaits state reply old mid of plain shows awaits).on_way in
+          let bad : ⊥ = cc (left.0, one) in
+          absurd bad);
       work = work_bound old.volume plain shows c.requires.idle;
       error = memory_no_range c.seal.result sealed.error;
       idle = sealed.idle;

@@ -11,7 +11,8 @@ use Rattle.volume_owner.specs.Errors.{is_eio, of_store}
 use Rattle.volume_owner.specs.declared.error.OwnerError.TheVariants as errors
 use Rattle.volume_owner.proofs.ActLemmas.{step_act, done_acts, failed_acts, no_want}
 use Rattle.volume_owner.proofs.CallLemmas.{put_call, failed_put_call, store_no_range}
-use Rattle.volume_owner.proofs.HelpLemmas.{done_makes, done_faults, done_leaves, failed_makes, failed_faults, failed_idle}
+use Rattle.volume_owner.proofs.HelpLemmas.{done_makes, done_faults, done_leaves, done_puts}
+use Rattle.volume_owner.proofs.HelpLemmas.{failed_makes, failed_faults, failed_idle}
 use Rattle.volume_owner.proofs.helping.put.Goals as goal
 
 pub returns-in-Ok : goal.returns-in-Ok
@@ -44,6 +45,7 @@ returns-in-Ok g c =
           (done_makes state job receipt reply old new of plain shows taken named)
           (done_faults state job receipt reply old new of plain shows taken named);
       less = left.1;
+      put = done_puts state job receipt reply old new of plain shows taken named;
       error = λ range. cc;
       idle = left.0;
     }
@@ -81,6 +83,7 @@ returns-in-Err g c =
           (failed_makes state job reply old new of plain shows taken)
           (failed_faults state job reply old new of plain shows taken));
       less = tt;
+      put = λ awaits. tt;
       error = λ range. (let same : of_store error ≡ errors.Range = cc in store_no_range error same);
       idle = failed_idle state job reply old new of plain shows taken;
     }

@@ -1,7 +1,8 @@
 use Rattle.std.proofs.Common.{refl, sym, ◌∙◌, subst}
 use Rattle.lsvd_fault.specs.Faults.{Counts}
 use Rattle.vol_core.specs.Volume.{SteppedVolume}
-use Rattle.volume_owner.proofs.ReadLemmas.{flush_makes, flush_idle, flush_work, flushed_is, not_flushed, flushed_reply}
+use Rattle.volume_owner.proofs.ReadLemmas.{flush_makes, flush_idle, flush_work, flush_put, flush_none}
+use Rattle.volume_owner.proofs.ReadLemmas.{flushed_is, not_flushed, flushed_reply}
 use Rattle.volume_owner.proofs.reading.flush.Goals as goal
 
 pub returns-in-Some : goal.returns-in-Some
@@ -14,7 +15,7 @@ returns-in-Some g c =
     let shows = c.step.ensures.was.shows in
     let of = c.step.ensures in
     let is = flushed_is state reply old new of plain shows c.in-Some.count
-    (flushed_reply reply c.in-Some.count (sym c.count_of.ensures ∙ c.in-Some.is)) in
+    (flushed_reply reply c.in-Some.count (sym c.count_of-count.ensures ∙ c.in-Some.is)) in
     record {
       flush = record {
         step = record { reply = reply; step = of; entered = refl };
@@ -24,6 +25,8 @@ returns-in-Some g c =
         durable = is.1;
       };
       work = flush_work state reply old new of plain shows;
+      put = flush_put state reply old new of plain shows;
+      none = flush_none state reply old new of plain shows c.is_volume.ensures.order.uploads;
       idle = flush_idle state reply old new of plain shows c.requires.idle;
     }
 
@@ -36,7 +39,7 @@ returns-in-None g c =
     let plain = c.step.ensures.was.plain in
     let shows = c.step.ensures.was.shows in
     let of = c.step.ensures in
-    let fault = not_flushed state reply old new of plain shows (sym c.count_of.ensures ∙ c.in-None.is) in
+    let fault = not_flushed state reply old new of plain shows (sym c.count_of-count.ensures ∙ c.in-None.is) in
     record {
       flush = record {
         step = record { reply = reply; step = of; entered = refl };
@@ -46,5 +49,7 @@ returns-in-None g c =
         durable = tt;
       };
       work = flush_work state reply old new of plain shows;
+      put = flush_put state reply old new of plain shows;
+      none = flush_none state reply old new of plain shows c.is_volume.ensures.order.uploads;
       idle = flush_idle state reply old new of plain shows c.requires.idle;
     }
