@@ -37,7 +37,12 @@ struct Round {
     points: &'static [u64],
     // How many calls are timed. As many writes fit into one batch.
     calls: u64,
+    // The rows of a checkpoint of a volume as large as there is, nearly.
+    rows_of_checkpoint: u64,
 }
+
+// The sectors of the largest volume.
+const MOST_SECTORS: u64 = 1 << 31;
 
 const WHOLE: Round = Round {
     rows: &[1_000, 100_000, 1_000_000],
@@ -49,6 +54,7 @@ const WHOLE: Round = Round {
     },
     points: &[1_000, 100_000, 1_000_000],
     calls: 1_000,
+    rows_of_checkpoint: 1_000_000,
 };
 
 // Its batches are full, and its log too, before the last of its points.
@@ -62,6 +68,7 @@ const SMALL: Round = Round {
     },
     points: &[8, 400],
     calls: 4,
+    rows_of_checkpoint: 400,
 };
 
 // What the words ask for.
@@ -105,7 +112,24 @@ fn make_round(rt: &HostRuntime, report: Report, round: &Round) -> Result<(), Ben
         time_tree(rt, report, *rows, round.calls)?;
     }
     let mut volume = TimedVolume::new(rt.alloc(), round.geometry)?;
-    make_steps(rt, report, round, &mut volume)
+    make_steps(rt, report, round, &mut volume)?;
+    make_checkpoint(rt, report, round)
+}
+
+// Times a checkpoint that has a row for nearly each of the writes before it: few of so many touch another in
+// so large a volume.
+fn make_checkpoint(rt: &HostRuntime, report: Report, round: &Round) -> Result<(), BenchError> {
+    let geometry = Geometry {
+        sectors: MOST_SECTORS,
+        ..round.geometry
+    };
+    let mut volume = TimedVolume::new(rt.alloc(), geometry)?;
+    println!(rt;
+        "{:>8} writes in a volume of 2^31 sectors",
+        round.rows_of_checkpoint
+    )?;
+    write_up_to(rt.alloc(), &mut volume, round.rows_of_checkpoint)?;
+    time_checkpoint(rt, report, &mut volume)
 }
 
 // Times steps. The looks find the last writes in the log, and the others in objects.
