@@ -4,7 +4,6 @@ use Rattle.std.proofs.Common.{length, get_or, take, Some, None, inl, inr, arith}
 use Rattle.std.specs.Prelude.{◌⊎◌, Option, IsSome, Contains, ◌↔◌, option_map, slice_index_or, map, not}
 use Rattle.std.specs.List.{All}
 use Rattle.std.specs.Str.{bytes_eq}
-use Rattle.std.specs.List.Sorted.{IsStrictlySortedBy}
 use Rattle.std.specs.BTreeSet.{insert_key}
 use Rattle.std.specs.Ordering.{match_ordering}
 use Rattle.std.specs.declared.cmp.Ordering.{Ordering}

@@ -34,12 +34,6 @@ pub record IsReceiptOf (name : ObjName) (bytes : List ℕ) (receipt : ReceiptSta
   pub size : receipt.size ≡ length bytes
   pub told : IfSome receipt.told (λ told. told ≡ bytes)
 
--- both stand for one object: one name, one length, and the same bytes, where both tell them
-pub record IsSameObject (a b : ReceiptState) : Type 0 where
-  pub named : a.name ≡ b.name
-  pub size : a.size ≡ b.size
-  pub told : IfSome a.told (λ bytes. IfSome b.told (λ others. bytes ≡ others))
-
 -- where a store tells what it was asked, it was asked one call more
 abbrev pub IsAskedOnce : StoreCall → Option (List StoreCall) → Option (List StoreCall) → Type 0
 IsAskedOnce call None new = new ≡ None

@@ -1,8 +1,9 @@
 ghost use Rattle.std.specs.Prelude.{◌≡◌, ◌+◌, ◌≤◌, length, take, drop, option_map, IsTrue, IfOk, IfSome};
-ghost use Rattle.std.specs.Prelude.{OnOk, OnErr, IsErrOf, is_err, ◌↔◌, List, Option, None};
+ghost use Rattle.std.specs.Prelude.{OnOk, OnErr, IsErrOf, is_err, ◌↔◌, Bool, List, Option, None};
+ghost use Rattle.std.specs.Option.{is_some};
 ghost use Rattle.lsvd_names.specs.Spelling.{IsName};
 ghost use Rattle.lsvd_objstore.specs.Objects.{IsPut, MayBePut, IsRemoved, MayBeRemoved, AreNamesOf, Lists};
-ghost use Rattle.lsvd_objstore.specs.Store.{StoreState, ReceiptState, IsReceiptOf, IsSameObject};
+ghost use Rattle.lsvd_objstore.specs.Store.{StoreState, ReceiptState, IsReceiptOf};
 ghost use Rattle.lsvd_objstore.specs.Store.{StoreCall, Put, Remove, Get};
 ghost use Rattle.lsvd_objstore.specs.Store.{IsAskedOnce, OnlyCounts, Becomes, has_failed, Finds};
 ghost use Rattle.lsvd_fault.specs.Faults.{Counts};
@@ -29,27 +30,23 @@ pub trait Receipt: Drop {
     fn len(&self) -> u64
         ensures { result ≡ (state self.now).size };
 
-    /// When two receipts are taken for one: they stand for the same object, and a receipt and its copy do.
-    ghost are_same: { Self → Self → Type 0 };
-
     /// The same receipt again. The one error is that memory ran out.
     fn copy(&self, alloc: Global) -> Result<Self, AllocError>
-        ensures state { IfOk result (λ receipt. state receipt ≡ state self.now) }
-        ensures same { IfOk result (λ receipt. are_same self.now receipt) };
+        ensures { IfOk result (λ receipt. state receipt ≡ state self.now) };
 
-    /// Whether both are taken for one. True is answered only where they stand for the same object: one name,
-    /// one length, and the same bytes, where both tell them. It is answered for a receipt and its copy. A
-    /// receipt of a directory need not tell two objects apart that have one name and one length.
+    /// Whether both stand for the same object: one name, one length, and the same bytes, where they tell
+    /// them. A receipt of a directory does not tell two objects apart that have one name and one length.
     fn same(&self, other: &Self) -> bool
-        ensures { IsTrue result ↔ are_same self.now other.now };
-
-    /// Receipts that are taken for one stand for the same object.
-    ghost only_same: { (receipt other : Self) → are_same receipt other
-        → IsSameObject (state receipt) (state other) };
+        ensures { IsTrue result ↔ (state self.now ≡ state other.now) };
 
     /// Where it tells the bytes, its length is theirs.
     ghost told_whole: { (receipt : Self)
         → IfSome (state receipt).told (λ told. (state receipt).size ≡ length told) };
+
+    /// Whether receipts of this kind tell the bytes: all of them do, or none does.
+    ghost tells: { Bool };
+
+    ghost told_alike: { (receipt : Self) → is_some (state receipt).told ≡ tells };
 }
 
 /// A store of objects under names. A put takes effect whole or not at all, and an object is never changed but

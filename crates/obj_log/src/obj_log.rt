@@ -127,7 +127,10 @@ impl<R: Receipt> ObjLog<R> {
         let sealed = self.batch.seal(alloc, &self.next())?;
         let end = self.batch.first_seq() + sealed.entries as u64;
         let spare = sealed.object.share()?;
-        let number = self.uploads.seal(sealed.object, spare, sealed.rows, end)?;
+        let ranges = self.uploads.put_ranges(alloc, sealed.rows.as_slice())?;
+        let number = self
+            .uploads
+            .seal(sealed.object, spare, sealed.rows, ranges, end)?;
         self.batch.release(sealed.rest);
         Ok(number)
     }
@@ -156,7 +159,10 @@ impl<R: Receipt> ObjLog<R> {
         ensures same { OnErr result (IsSame self.old self.new) }
         ensures order { IsUploads self.old.uploads }
     {
-        self.uploads.adopt(rows, end, receipt)?;
+        // It is told that the uploads are in order, also where memory runs out.
+        self.uploads.frontier();
+        let ranges = self.uploads.put_ranges(alloc, rows)?;
+        self.uploads.adopt(rows, ranges, end, receipt)?;
         self.batch = Batch::new(alloc, self.batch.geometry(), end);
         Ok(())
     }

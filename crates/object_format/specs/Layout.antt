@@ -38,6 +38,10 @@ front_sectors header = front_with header.kind header.rows
 abbrev pub data_front_sectors : ℕ → ℕ
 data_front_sectors rows = front_with Data rows
 
+-- and of a copy
+abbrev pub copy_front_sectors : ℕ → ℕ
+copy_front_sectors rows = front_with Copy rows
+
 -- the zeros after the rows
 abbrev pub padding : Header → ℕ
 padding header = 512 * front_sectors header - rows_end header

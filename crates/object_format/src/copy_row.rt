@@ -1,8 +1,10 @@
 ghost use Rattle.std.specs.Prelude.{◌≡◌, ◌+◌, ◌*◌, ◌^◌, ◌<◌, ◌≤◌, ◌++◌, length, take, drop, None};
 ghost use Rattle.std.specs.List.{flat_map, sum_by};
+ghost use Rattle.object_format.specs.Layout.{copy_front_sectors};
 ghost use Rattle.object_format.specs.Rows.{copy_row_bytes, copy_row_in, breaks_off, is_source};
 ghost use Rattle.object_format.specs.Rows.{copy_may_follow, copy_may_stand, copy_rows_may_stand};
 
+use crate::kind::Kind;
 use crate::rows::is_inside;
 use crate::{MAX_PAYLOAD, PLACE_AT, SECTORS_AT};
 use lsvd_bytes::{read_u32, read_u64, write_u32, write_u64};
@@ -144,8 +146,17 @@ pub(crate) fn copy_rows_may_stand(rows: &[CopyRow], volume: u64, payload: u64, n
     place == payload
 }
 
-/// The sectors of the payload of rows.
-pub(crate) fn copies_payload(rows: &[CopyRow]) -> u64
+/// The sectors of a copy before its payload, if it has so many rows: at most 65,536, the most of an object (a
+/// condition).
+pub fn copy_front_sectors(rows: u64) -> u64
+    requires { rows ≤ 65536 }
+    ensures { result ≡ copy_front_sectors rows }
+{
+    Kind::Copy.front_sectors(rows as u32)
+}
+
+/// The sectors of the payload of rows, which are fewer than 2^64 (a condition).
+pub fn copies_payload(rows: &[CopyRow]) -> u64
     requires { sum_by (λ row. row.sectors) rows.now < 2 ^ 64 }
     ensures { result ≡ sum_by (λ row. row.sectors) rows.now }
 {

@@ -18,7 +18,7 @@ mod rows;
 mod rows_reading;
 mod writing;
 
-pub use copy_row::{CopyRow, Source};
+pub use copy_row::{CopyRow, Source, copies_payload, copy_front_sectors};
 pub use data_row::{DataRow, data_front_sectors};
 pub use expected::Expected;
 pub use header::Header;

@@ -28,9 +28,8 @@ use Rattle.object_table.specs.Table.{row_of, new_row, passed}
 use Rattle.object_table.proofs.Rows.{its_number}
 use Rattle.object_table.proofs.Listed.{found_holds}
 use Rattle.volume_maps.specs.declared.place.ObjectPlace.{ObjectPlace}
-use Rattle.volume_maps.specs.Kept.{is_live}
 use Rattle.volume_maps.specs.Laws.{place_owner}
-use Rattle.volume_maps.specs.Live.{live_sectors}
+use Rattle.volume_maps.specs.Live.{is_live, live_sectors}
 use Rattle.volume_maps.specs.Maps.{settled_at}
 use Rattle.volume_maps.proofs.TableLemmas.{same_numbers}
 use Rattle.object_uploads.specs.State.{QueueState}

@@ -56,7 +56,7 @@ owner_by_later number (Some Clear) earlier before = refl
 pub after_one : (number : ℕ) (content : Content) (entries : List Entry) (f g : Owners) (k : ℕ) → f k ≡ g k
     → after_object number content entries f k ≡ after_object number content entries g k
 after_one number Data entries f g k same = ap (owner_by_change number (change_at entries k)) same
-after_one number (Copy pairs) entries f g k same = ap (owner_by_copy number (source_in pairs.items k)) same
+after_one number (Copy pairs) entries f g k same = ap (owner_by_copy number (source_in pairs k)) same
 after_one number Checkpoint entries f g k same = same
 
 -- and so after objects

@@ -54,7 +54,7 @@ same_rows rows.Checkpoint = tt
 same_after_change : (number : ℕ) (content : Content) (entries : List Entry) (f g : Owners) (k : ℕ) → f k ≡ g k
     → after_object number content entries f k ≡ after_object number content entries g k
 same_after_change number Data entries f g k same = ap (owner_by_change number (change_at entries k)) same
-same_after_change number (Copy pairs) entries f g k same = ap (owner_by_copy number (source_in pairs.items k)) same
+same_after_change number (Copy pairs) entries f g k same = ap (owner_by_copy number (source_in pairs k)) same
 same_after_change number Checkpoint entries f g k same = same
 
 pub same_after : (number end : ℕ) (entries : List Entry) (f g : Owners) (list : List StreamObject)

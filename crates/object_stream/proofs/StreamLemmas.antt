@@ -112,7 +112,7 @@ new_by_copy number (Some source) before owner h = new_by_test number (is_own sou
 new_by_object : (number : ℕ) (content : Content) (entries : List Entry) (before : Owners) (k : ℕ) (owner : Owner)
     → after_object number content entries before k ≡ Some owner → IsNew number (before k) owner
 new_by_object number Data entries before k owner h = new_by_change number (change_at entries k) (before k) owner h
-new_by_object number (Copy pairs) entries before k owner h = new_by_copy number (source_in pairs.items k) (before k) owner h
+new_by_object number (Copy pairs) entries before k owner h = new_by_copy number (source_in pairs k) (before k) owner h
 new_by_object number Checkpoint entries before k owner h = inl h
 
 -- and after objects: as before, or one of them

@@ -87,7 +87,7 @@ module _ (objects : Objects) (uuid_at : ℕ → Option (List ℕ)) (volume : Exp
   data_sector part rows.Checkpoint payload k has = absurd has
 
   copy_sector : (pairs : _) (part : List Entry) (list : Rows) (payload : List ℕ) (k source : ℕ) (sector : List ℕ)
-      → HasContent objects uuid_at (Copy pairs) part list payload → source_in pairs.items k ≡ Some source
+      → HasContent objects uuid_at (Copy pairs) part list payload → source_in pairs k ≡ Some source
       → HasSector objects uuid_at (record { level = 0; number = source }) k sector → sector_in list payload k ≡ Some sector
   copy_sector pairs part (rows.Data list) payload k source sector has from old = absurd has
   copy_sector pairs part (rows.Copy list) payload k source sector has from old = has.1 k source sector from old
@@ -117,7 +117,7 @@ module _ (objects : Objects) (uuid_at : ℕ → Option (List ℕ)) (volume : Exp
 
     by_test : (k source : ℕ) (sector : List ℕ) (still : Bool) (pairs : _)
         → HasContent objects uuid_at (Copy pairs) part is.rows_of is.payload
-        → source_in pairs.items k ≡ Some source → is_own source (before k) ≡ still → slice_get image k ≡ Some sector
+        → source_in pairs k ≡ Some source → is_own source (before k) ≡ still → slice_get image k ≡ Some sector
         → StandsForSector objects uuid_at (cond still (Some (record { level = 0; number = number })) (before k)) k sector
     by_test k source sector false pairs has from still at = value k sector at
     by_test k source sector true pairs has from still at =
@@ -127,7 +127,7 @@ module _ (objects : Objects) (uuid_at : ℕ → Option (List ℕ)) (volume : Exp
 
     by_copy : (k : ℕ) (sector : List ℕ) (source : Option ℕ) (pairs : _)
         → HasContent objects uuid_at (Copy pairs) part is.rows_of is.payload
-        → source_in pairs.items k ≡ source → slice_get image k ≡ Some sector
+        → source_in pairs k ≡ source → slice_get image k ≡ Some sector
         → StandsForSector objects uuid_at (owner_by_copy number source (before k)) k sector
     by_copy k sector None pairs has from at = value k sector at
     by_copy k sector (Some source) pairs has from at = by_test k source sector (is_own source (before k)) pairs has from refl at
@@ -144,7 +144,7 @@ module _ (objects : Objects) (uuid_at : ℕ → Option (List ℕ)) (volume : Exp
         let inside : k < length image = rw (sym (length-after image part ends)) (there (after image part) k sector at) in
         by_change k sector (change_at part k) has refl (sym (changes_make_image image part k ends inside) ∙ at)
     by_content (Copy pairs) has none ends k sector at =
-        by_copy k sector (source_in pairs.items k) pairs has refl (ap (λ entries. slice_get (after image entries) k) (sym none)
+        by_copy k sector (source_in pairs k) pairs has refl (ap (λ entries. slice_get (after image entries) k) (sym none)
         ∙ at)
     by_content Checkpoint has none ends k sector at =
         value k sector (ap (λ entries. slice_get (after image entries) k) (sym none) ∙ at)

@@ -6,3 +6,4 @@ pub mod Value
 pub mod Stored
 pub mod Plain
 pub mod Laws
+pub mod Planned

@@ -25,8 +25,8 @@ CopiesSources objects uuid_at source copied =
 abbrev pub HasContent : Objects → (ℕ → Option (List ℕ)) → Content → List Entry → Rows → (payload : List ℕ) → Type 0
 HasContent objects uuid_at Data entries (rows.Data list) payload = (k : ℕ) → change_in list.items payload k ≡ change_at entries k
 HasContent objects uuid_at (Copy pairs) entries (rows.Copy list) payload =
-    ((k : ℕ) → source_at list.items k ≡ source_in pairs.items k)
-    × CopiesSources objects uuid_at (source_in pairs.items) (copied_in list.items payload)
+    ((k : ℕ) → source_at list.items k ≡ source_in pairs k)
+    × CopiesSources objects uuid_at (source_in pairs) (copied_in list.items payload)
 HasContent objects uuid_at Checkpoint entries rows.Checkpoint payload = Unit {0}
 HasContent objects uuid_at content entries rows payload = ⊥
 

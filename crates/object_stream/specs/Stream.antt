@@ -57,7 +57,7 @@ owner_by_copy number (Some source) before =
 -- puts, and none those that it clears; a copy gives itself those whose owner still is their source; a checkpoint changes none.
 abbrev pub after_object : (number : ℕ) → Content → List Entry → Owners → Owners
 after_object number Data entries before k = owner_by_change number (change_at entries k) (before k)
-after_object number (Copy pairs) entries before k = owner_by_copy number (source_in pairs.items k) (before k)
+after_object number (Copy pairs) entries before k = owner_by_copy number (source_in pairs k) (before k)
 after_object number Checkpoint entries before k = before k
 
 -- ---- the replay of the objects up to a number

@@ -25,7 +25,7 @@ pub use laws::{
     owners_are_opening_or_later, owners_are_the_same_from_a_later_object,
     owners_stand_for_the_history, stored_objects_replay_as_the_stream, there_is_one_first_missing,
 };
-pub use object::{Content, CopiedSector, StreamObject};
+pub use object::{Content, CopiedSector, CopiedSectors, StreamObject};
 pub use owner::Owner;
 pub use plain_stream::PlainStream;
 pub use value::sector_in;

@@ -77,11 +77,11 @@ is_removed table number removable =
     let none : nat_eq removable.row.pins 0 ≡ true = grind (arith, nat_tests) in
     and_from removable.row.is_unmapped (nat_eq removable.row.pins 0) removable.unmapped none
 
-pub lowest : (table : TableState) (dead free : List ℕ) → IsListed table.checkpoint table.rows dead free
-    → IsLowestRemovable table (slice_get free 0)
-lowest table dead [] listed = λ number removable.
+pub lowest : (table : TableState) (dead free candidates : List ℕ)
+    → IsListed table.checkpoint table.rows dead free candidates → IsLowestRemovable table (slice_get free 0)
+lowest table dead [] candidates listed = λ number removable.
     some_passes is_free number table.rows removable.row removable.stands (is_removed table number removable) (sym listed.free_are)
-lowest table dead (first ∷ rest) listed =
+lowest table dead (first ∷ rest) candidates listed =
     let found = passing is_free 0 first [] rest table.rows listed.order (sym listed.free_are) in
     let parts = free_parts found.0 found.2 in
     let stays = found_holds (StaysUnmapped table.checkpoint) first table.rows found.0 found.1 listed.unmapped parts.0 in

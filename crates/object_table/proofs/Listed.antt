@@ -1,13 +1,13 @@
--- The two lists of numbers where a row is replaced, added or taken out.
-use Rattle.std.proofs.Common.{ℕ, ◌<◌, ◌≤◌, ◌≡◌, Bool, true, false, cond, Some, List, [], ◌∷◌, ◌++◌, length, refl, ap, arith}
-use Rattle.std.proofs.Common.{◌∙◌, sym, subst, suc, get_or, set, ◌&&◌, not, true≢false, append-nil}
+-- The three lists of numbers where a row is replaced, added or taken out.
+use Rattle.std.proofs.Common.{ℕ, ◌*◌, ◌<◌, ◌≤◌, ◌≡◌, Bool, true, false, cond, Some, List, [], ◌∷◌, ◌++◌, length, refl, ap, arith}
+use Rattle.std.proofs.Common.{◌∙◌, sym, subst, suc, get_or, set, not, ◌&&◌, true≢false, append-nil}
 use Rattle.std.specs.Prelude.{nat_eq, nat_lt}
 use Rattle.std.specs.List.{All, filter, remove}
 use Rattle.std.proofs.lemmas.Bool.Decides.{nat_tests}
 use Rattle.std.proofs.lemmas.List.Elements.{All-cons, All-head, All-tail}
 use Rattle.std.proofs.lemmas.Option.{same_Some}
 use Rattle.object_table.specs.declared.row.ObjectRow.{ObjectRow}
-use Rattle.object_table.specs.Table.{has_number, numbers, row_of, without}
+use Rattle.object_table.specs.Table.{has_number, numbers, row_of, without, is_candidate}
 use Rattle.object_table.specs.Lists.{Climbs, removed, relisted, IsListed, IsPlaceOf, StaysUnmapped, KeepsUnmapped}
 use Rattle.object_table.specs.Lists.{is_dead, is_free, with_row}
 use Rattle.object_table.proofs.Numbers.{lower, inserted_front, removed_below}
@@ -166,10 +166,11 @@ stays_without checkpoint number (row ∷ rows) all =
     ]
 
 -- the lists after a row is replaced, and after one is taken out
-pub listed_with : (checkpoint : ℕ) (new old : ObjectRow) (rows : List ObjectRow) (dead free : List ℕ)
-    → row_of new.number rows ≡ Some old → StaysUnmapped checkpoint new → IsListed checkpoint rows dead free
+pub listed_with : (checkpoint : ℕ) (new old : ObjectRow) (rows : List ObjectRow) (dead free candidates : List ℕ)
+    → row_of new.number rows ≡ Some old → StaysUnmapped checkpoint new → IsListed checkpoint rows dead free candidates
     → IsListed checkpoint (with_row new rows) (relisted (is_dead new) new.number dead) (relisted (is_free new) new.number free)
-listed_with checkpoint new old rows dead free is stays listed = record {
+    (relisted (is_candidate new) new.number candidates)
+listed_with checkpoint new old rows dead free candidates is stays listed = record {
   order = climbs_with 0 new rows listed.order;
   unmapped = stays_with checkpoint new rows stays listed.unmapped;
   dead_are =
@@ -178,16 +179,22 @@ listed_with checkpoint new old rows dead free is stays listed = record {
   free_are =
       ap (λ ns. relisted (is_free new) new.number ns) listed.free_are
       ∙ sym (relisted_with is_free 0 new old rows listed.order is);
+  candidates_are =
+      ap (λ ns. relisted (is_candidate new) new.number ns) listed.candidates_are
+      ∙ sym (relisted_with is_candidate 0 new old rows listed.order is);
 }
 
-pub listed_without : (checkpoint number : ℕ) (old : ObjectRow) (rows : List ObjectRow) (dead free : List ℕ)
-    → row_of number rows ≡ Some old → IsListed checkpoint rows dead free
-    → IsListed checkpoint (without number rows) (removed number dead) (removed number free)
-listed_without checkpoint number old rows dead free is listed = record {
+pub listed_without : (checkpoint number : ℕ) (old : ObjectRow) (rows : List ObjectRow) (dead free candidates : List ℕ)
+    → row_of number rows ≡ Some old → IsListed checkpoint rows dead free candidates
+    → IsListed checkpoint (without number rows) (removed number dead) (removed number free) (removed number candidates)
+listed_without checkpoint number old rows dead free candidates is listed = record {
   order = climbs_without 0 number rows listed.order;
   unmapped = stays_without checkpoint number rows listed.unmapped;
   dead_are = ap (λ ns. removed number ns) listed.dead_are ∙ sym (relisted_without is_dead 0 number old rows listed.order is);
   free_are = ap (λ ns. removed number ns) listed.free_are ∙ sym (relisted_without is_free 0 number old rows listed.order is);
+  candidates_are =
+      ap (λ ns. removed number ns) listed.candidates_are
+      ∙ sym (relisted_without is_candidate 0 number old rows listed.order is);
 }
 
 -- ---- what the calls ask of the lists
@@ -203,11 +210,12 @@ found_holds P number (first ∷ rows) row is all =
       | false ↦ (λ e. rest e)
     ] is
 
-pub orders : (checkpoint : ℕ) (rows : List ObjectRow) (dead free : List ℕ) → IsListed checkpoint rows dead free
-    → Climbs 0 dead × Climbs 0 free
-orders checkpoint rows dead free listed = (
+pub orders : (checkpoint : ℕ) (rows : List ObjectRow) (dead free candidates : List ℕ)
+    → IsListed checkpoint rows dead free candidates → Climbs 0 dead × Climbs 0 free × Climbs 0 candidates
+orders checkpoint rows dead free candidates listed = (
   subst (Climbs 0) (sym listed.dead_are) (climbs_filter is_dead 0 rows listed.order),
   subst (Climbs 0) (sym listed.free_are) (climbs_filter is_free 0 rows listed.order),
+  subst (Climbs 0) (sym listed.candidates_are) (climbs_filter is_candidate 0 rows listed.order),
 )
 
 few_pass : (test : ObjectRow → Bool) (rows : List ObjectRow) → length (numbers (filter test rows)) ≤ length rows
@@ -219,11 +227,13 @@ few_pass test (row ∷ rows) =
       | false ↦ omega (arith, rest)
     ]
 
-pub are_few : (checkpoint : ℕ) (rows : List ObjectRow) (dead free : List ℕ) → IsListed checkpoint rows dead free
-    → (length dead ≤ length rows) × (length free ≤ length rows)
-are_few checkpoint rows dead free listed = (
+pub are_few : (checkpoint : ℕ) (rows : List ObjectRow) (dead free candidates : List ℕ)
+    → IsListed checkpoint rows dead free candidates
+    → (length dead ≤ length rows) × (length free ≤ length rows) × (length candidates ≤ length rows)
+are_few checkpoint rows dead free candidates listed = (
   omega (arith, ap length listed.dead_are, few_pass is_dead rows),
   omega (arith, ap length listed.free_are, few_pass is_free rows),
+  omega (arith, ap length listed.candidates_are, few_pass is_candidate rows),
 )
 
 pub length-with_row : (new : ObjectRow) (rows : List ObjectRow) → length (with_row new rows) ≡ length rows
@@ -254,25 +264,26 @@ stays_put checkpoint new old rows is keeps all unmapped =
     (omega (arith, kept.1, before.0), omega (arith, same, before.1))
 
 -- a row is put at its place
-pub put_at : (checkpoint at : ℕ) (new : ObjectRow) (rows : List ObjectRow) (dead free : List ℕ)
-    → IsListed checkpoint rows dead free → KeepsUnmapped rows new → IsPlaceOf new.number rows (Some at)
+pub put_at : (checkpoint at : ℕ) (new : ObjectRow) (rows : List ObjectRow) (dead free candidates : List ℕ)
+    → IsListed checkpoint rows dead free candidates → KeepsUnmapped rows new → IsPlaceOf new.number rows (Some at)
     → (set rows at new ≡ with_row new rows)
     × IsListed checkpoint (with_row new rows) (relisted (is_dead new) new.number dead) (relisted (is_free new) new.number free)
-put_at checkpoint at new rows dead free listed keeps place =
+    (relisted (is_candidate new) new.number candidates)
+put_at checkpoint at new rows dead free candidates listed keeps place =
     let found = row_at 0 new.number rows at blank listed.order place.0 (place.1 blank) in (
       set_row_at 0 new rows at blank listed.order place.0 (place.1 blank),
-      listed_with checkpoint new (get_or rows at blank) rows dead free found
+      listed_with checkpoint new (get_or rows at blank) rows dead free candidates found
           (stays_put checkpoint new (get_or rows at blank) rows found keeps listed.unmapped) listed,
     )
 
 -- the row at a place is taken out
-pub taken_at : (checkpoint at number : ℕ) (rows : List ObjectRow) (dead free : List ℕ)
-    → IsListed checkpoint rows dead free → IsPlaceOf number rows (Some at)
+pub taken_at : (checkpoint at number : ℕ) (rows : List ObjectRow) (dead free candidates : List ℕ)
+    → IsListed checkpoint rows dead free candidates → IsPlaceOf number rows (Some at)
     → (remove rows at ≡ without number rows)
-    × IsListed checkpoint (without number rows) (removed number dead) (removed number free)
-taken_at checkpoint at number rows dead free listed place = (
+    × IsListed checkpoint (without number rows) (removed number dead) (removed number free) (removed number candidates)
+taken_at checkpoint at number rows dead free candidates listed place = (
   removed_row_at 0 number rows at blank listed.order place.0 (place.1 blank),
-  listed_without checkpoint number (get_or rows at blank) rows dead free
+  listed_without checkpoint number (get_or rows at blank) rows dead free candidates
       (row_at 0 number rows at blank listed.order place.0 (place.1 blank)) listed,
 )
 
@@ -304,27 +315,35 @@ stays_last checkpoint row (first ∷ rows) here all =
     All-cons (StaysUnmapped checkpoint) first (rows ++ row ∷ []) (All-head (StaysUnmapped checkpoint) first rows all)
     (stays_last checkpoint row rows here (All-tail (StaysUnmapped checkpoint) first rows all))
 
-and_true : (b : Bool) → b && true ≡ b
-and_true true = refl
-and_true false = refl
+-- a list that a row put last is among, and one that it is not among
+last_passes : (test : ObjectRow → Bool) (row : ObjectRow) (rows : List ObjectRow) (ns : List ℕ) → test row ≡ true
+    → ns ≡ numbers (filter test rows) → ns ++ row.number ∷ [] ≡ numbers (filter test (rows ++ row ∷ []))
+last_passes test row rows ns passes listed =
+    ap (λ ns. ns ++ row.number ∷ []) listed
+    ∙ (ap (λ b. numbers (filter test rows) ++ cond b (row.number ∷ []) []) (sym passes)
+    ∙ sym (filter_last test row rows))
 
-pub listed_last : (checkpoint : ℕ) (row : ObjectRow) (rows : List ObjectRow) (dead free : List ℕ) → 0 < row.number
-    → All (λ (other : ObjectRow). other.number < row.number) rows → row.is_unmapped ≡ false
-    → IsListed checkpoint rows dead free
-    → IsListed checkpoint (rows ++ row ∷ []) (dead ++ cond (nat_eq row.live 0) (row.number ∷ []) []) free
-listed_last checkpoint row rows dead free some last mapped listed =
-    let dies : is_dead row ≡ nat_eq row.live 0 = ap (λ b. nat_eq row.live 0 && not b) mapped ∙ and_true (nat_eq row.live 0) in
+last_fails : (test : ObjectRow → Bool) (row : ObjectRow) (rows : List ObjectRow) (ns : List ℕ) → test row ≡ false
+    → ns ≡ numbers (filter test rows) → ns ≡ numbers (filter test (rows ++ row ∷ []))
+last_fails test row rows ns fails listed =
+    listed
+    ∙ (sym (append-nil (numbers (filter test rows)))
+    ∙ (ap (λ b. numbers (filter test rows) ++ cond b (row.number ∷ []) []) (sym fails)
+    ∙ sym (filter_last test row rows)))
+
+pub listed_last : (checkpoint : ℕ) (row : ObjectRow) (rows : List ObjectRow) (dead free candidates : List ℕ) → 0 < row.number
+    → All (λ (other : ObjectRow). other.number < row.number) rows → row.live ≡ 0 → row.is_unmapped ≡ false
+    → IsListed checkpoint rows dead free candidates
+    → IsListed checkpoint (rows ++ row ∷ []) (dead ++ row.number ∷ []) free candidates
+listed_last checkpoint row rows dead free candidates some last none mapped listed =
+    let dies : is_dead row ≡ true = rw (none, mapped) refl in
     let not_free : is_free row ≡ false = ap (λ b. b && nat_eq row.pins 0) mapped in
+    let not_candidate : is_candidate row ≡ false =
+    ap (λ live. nat_lt 0 live && nat_lt (live * 100) (70 * row.payload)) none in
     record {
       order = climbs_last 0 row rows some last listed.order;
       unmapped = stays_last checkpoint row rows (λ unmapped. absurd (true≢false (sym unmapped ∙ mapped))) listed.unmapped;
-      dead_are =
-          ap (λ ns. ns ++ cond (nat_eq row.live 0) (row.number ∷ []) []) listed.dead_are
-          ∙ (ap (λ b. numbers (filter is_dead rows) ++ cond b (row.number ∷ []) []) (sym dies)
-          ∙ sym (filter_last is_dead row rows));
-      free_are =
-          listed.free_are
-          ∙ (sym (append-nil (numbers (filter is_free rows)))
-          ∙ (ap (λ b. numbers (filter is_free rows) ++ cond b (row.number ∷ []) []) (sym not_free)
-          ∙ sym (filter_last is_free row rows)));
+      dead_are = last_passes is_dead row rows dead dies listed.dead_are;
+      free_are = last_fails is_free row rows free not_free listed.free_are;
+      candidates_are = last_fails is_candidate row rows candidates not_candidate listed.candidates_are;
     }

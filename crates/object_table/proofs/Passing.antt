@@ -7,16 +7,16 @@ use Rattle.std.proofs.lemmas.Bool.Decides.{nat_tests}
 use Rattle.std.proofs.lemmas.List.Elements.{All-cons, All-head, All-tail}
 use Rattle.std.proofs.lemmas.Option.{none-some, same_Some}
 use Rattle.object_table.specs.declared.row.ObjectRow.{ObjectRow}
-use Rattle.object_table.specs.Table.{has_number, numbers, row_of, passed}
+use Rattle.object_table.specs.Table.{has_number, numbers, row_of, is_candidate, candidates, passed}
 use Rattle.object_table.specs.Lists.{IsListed, IsPlaceOf, StaysUnmapped, is_dead, is_free, relisted, with_row}
 use Rattle.object_table.proofs.Numbers.{removed_last}
 use Rattle.object_table.proofs.Rows.{row_at, set_row_at}
 use Rattle.object_table.proofs.Listed.{found_holds, listed_with, orders}
 use Rattle.object_table.proofs.Free.{passing}
 
--- some of the dead rows were passed
+-- some of the dead rows were passed, and the candidates are what they were
 pub record IsPassing (checkpoint : ℕ) (before rows : List ObjectRow) (dead free : List ℕ) : Type 0 where
-  pub listed : IsListed checkpoint rows dead free
+  pub listed : IsListed checkpoint rows dead free (candidates before)
   pub same : map passed rows ≡ map passed before
   pub below : All (λ (row : ObjectRow). row.number < checkpoint) rows
 
@@ -41,6 +41,21 @@ all_with P new (row ∷ rows) here all =
       | false ↦ All-cons P row (with_row new rows) (All-head P row rows all) (all_with P new rows here rest)
     ]
 
+-- whether an object may be a victim does not turn on which checkpoint maps it
+candidates_passed : (rows : List ObjectRow) → candidates (map passed rows) ≡ candidates rows
+candidates_passed [] = refl
+candidates_passed (row ∷ rows) =
+    let rest = candidates_passed rows in
+    elim (is_candidate row) as (λ b. numbers
+    (cond b (passed row ∷ filter is_candidate (map passed rows)) (filter is_candidate (map passed rows)))
+    ≡ numbers (cond b (row ∷ filter is_candidate rows) (filter is_candidate rows))) [
+      | true ↦ ap (λ ns. row.number ∷ ns) rest
+      | false ↦ rest
+    ]
+
+same_candidates : (before rows : List ObjectRow) → map passed rows ≡ map passed before → candidates rows ≡ candidates before
+same_candidates before rows same = sym (candidates_passed rows) ∙ (ap candidates same ∙ candidates_passed before)
+
 -- the last dead row is passed
 pass_row : (checkpoint at : ℕ) (row : ObjectRow) (before rows : List ObjectRow) (dead free : List ℕ)
     → IsPassing checkpoint before rows (dead ++ row.number ∷ []) free → IsPlaceOf row.number rows (Some at)
@@ -58,15 +73,25 @@ pass_row checkpoint at row before rows dead free passes place is =
     let not_live = (and_parts (nat_eq row.live 0) (not row.is_unmapped) died).0 in
     let no_live : row.live ≡ 0 = grind (arith, nat_tests, not_live) in
     let low = found_holds (λ (row : ObjectRow). row.number < checkpoint) row.number rows row found passes.below in
-    let put = listed_with checkpoint new row rows (dead ++ row.number ∷ []) free found (λ unmapped. (no_live, low)) listed in
+    let put =
+    listed_with checkpoint new row rows (dead ++ row.number ∷ []) free (candidates before) found
+    (λ unmapped. (no_live, low)) listed in
     let not_dead : is_dead new ≡ false = and_right (nat_eq row.live 0) false refl in
     let popped : relisted (is_dead new) row.number (dead ++ row.number ∷ []) ≡ dead =
     ap (λ b. relisted b row.number (dead ++ row.number ∷ [])) not_dead
-    ∙ removed_last 0 row.number dead (orders checkpoint rows (dead ++ row.number ∷ []) free listed).0 in (
+    ∙ removed_last 0 row.number dead (orders checkpoint rows (dead ++ row.number ∷ []) free (candidates before) listed).0 in
+    let same = passed_with new row rows found refl ∙ passes.same in
+    let kept = put.candidates_are ∙ same_candidates before (with_row new rows) same in (
       set_row_at 0 new rows at row listed.order place.0 (place.1 row),
       record {
-        listed = subst (λ dead. IsListed checkpoint (with_row new rows) dead (relisted (is_free new) row.number free)) popped put;
-        same = passed_with new row rows found refl ∙ passes.same;
+        listed =
+            subst
+            (λ candidates. IsListed checkpoint (with_row new rows) dead (relisted (is_free new) row.number free) candidates)
+            kept
+            (subst
+            (λ dead. IsListed checkpoint (with_row new rows) dead (relisted (is_free new) row.number free)
+            (relisted (is_candidate new) row.number (candidates before))) popped put);
+        same = same;
         below = all_with (λ (row : ObjectRow). row.number < checkpoint) new rows low passes.below;
       },
     )

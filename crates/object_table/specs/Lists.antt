@@ -1,9 +1,9 @@
--- For this crate's own clauses: the ordered lists of numbers that answer which objects may be removed.
+-- For this crate's own clauses: the ordered lists of numbers that answer which objects may be removed, and which may be victims.
 use Rattle.std.specs.Prelude.{ℕ, ◌<◌, ◌≤◌, ◌≡◌, Bool, IsTrue, not, ◌&&◌, nat_eq, nat_lt, if◌then◌else◌}
 use Rattle.std.specs.Prelude.{Option, Some, None, IfSome, List, [], ◌∷◌, length, slice_index_or}
 use Rattle.std.specs.List.{All, filter}
 use Rattle.object_table.specs.declared.row.ObjectRow.{ObjectRow}
-use Rattle.object_table.specs.Table.{has_number, numbers, row_of}
+use Rattle.object_table.specs.Table.{has_number, numbers, row_of, is_candidate}
 
 -- numbers ascend above `low`
 abbrev pub Climbs : ℕ → List ℕ → Type 0
@@ -45,12 +45,14 @@ KeepsUnmapped rows new =
     IfSome (row_of new.number rows)
     (λ (old : ObjectRow). IsTrue new.is_unmapped → IsTrue old.is_unmapped × (new.live ≤ old.live))
 
--- what holds of the rows of a table and of its two lists of numbers: the dead, and those that may be removed
-pub record IsListed (checkpoint : ℕ) (rows : List ObjectRow) (dead free : List ℕ) : Type 0 where
+-- what holds of the rows of a table and of its three lists of numbers: the dead, those that may be removed, and those that may be
+-- victims
+pub record IsListed (checkpoint : ℕ) (rows : List ObjectRow) (dead free candidates : List ℕ) : Type 0 where
   pub order : Climbs 0 (numbers rows)
   pub unmapped : All (StaysUnmapped checkpoint) rows
   pub dead_are : dead ≡ numbers (filter is_dead rows)
   pub free_are : free ≡ numbers (filter is_free rows)
+  pub candidates_are : candidates ≡ numbers (filter is_candidate rows)
 
 -- the place of the row of a number; none where it is absent
 abbrev pub IsPlaceOf : ℕ → List ObjectRow → Option ℕ → Type 0

@@ -1,7 +1,7 @@
 -- Contract: what a volume knows of its own objects that stand in the store, and which of them may be removed.
-use Rattle.std.specs.Prelude.{ℕ, ◌+◌, ◌-◌, ◌<◌, ◌≤◌, ◌≡◌, Bool, false, IsTrue, nat_eq, if◌then◌else◌}
+use Rattle.std.specs.Prelude.{ℕ, ◌+◌, ◌-◌, ◌*◌, ◌<◌, ◌≤◌, ◌≡◌, Bool, false, IsTrue, ◌&&◌, nat_eq, nat_lt, if◌then◌else◌}
 use Rattle.std.specs.Prelude.{Option, Some, None, List, [], ◌∷◌, ◌++◌, map, find}
-use Rattle.std.specs.List.{All}
+use Rattle.std.specs.List.{All, filter}
 use Rattle.object_table.specs.declared.row.ObjectRow.{ObjectRow}
 
 -- a table of objects
@@ -66,6 +66,16 @@ abbrev pub IsLowestRemovable : TableState → Option ℕ → Type 0
 IsLowestRemovable table None = (number : ℕ) → IsRemovable table number → ⊥
 IsLowestRemovable table (Some lowest) =
     IsRemovable table lowest × ((number : ℕ) → IsRemovable table number → lowest ≤ number)
+
+-- ---- which objects a collection may take sectors from
+
+-- An object may be a victim: some sectors of the settled map are in it, and they are fewer than 70 in a hundred of its payload.
+abbrev pub is_candidate : ObjectRow → Bool
+is_candidate row = nat_lt 0 row.live && nat_lt (row.live * 100) (70 * row.payload)
+
+-- their numbers, ascending
+abbrev pub candidates : List ObjectRow → List ℕ
+candidates rows = numbers (filter is_candidate rows)
 
 -- ---- the changes
 

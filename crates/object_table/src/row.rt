@@ -1,6 +1,13 @@
 ghost use Rattle.std.specs.Prelude.{◌≡◌};
-ghost use Rattle.object_table.specs.Table.{new_row, numbers};
+ghost use Rattle.object_table.specs.Table.{new_row, numbers, is_candidate};
 ghost use Rattle.object_table.specs.Lists.{Climbs, IsPlaceOf, is_dead, is_free};
+
+// A collection writes the live sectors of an object anew to free the others. From 70 live ones in a hundred
+// on it would write more than twice what it frees, so such an object is left as it is.
+const MOST_LIVE: u128 = 70;
+
+// So many parts are a whole payload, of which MOST_LIVE counts some.
+const WHOLE: u128 = 100;
 
 /// What is known of an object that stands in the store.
 #[derive(Clone, Copy, Debug, PartialEq, Eq)]
@@ -46,6 +53,13 @@ pub(crate) fn is_free(row: &ObjectRow) -> bool
     ensures { result ≡ is_free row.now }
 {
     row.is_unmapped && row.pins == 0
+}
+
+// Whether a collection may take sectors from the object: it has live ones, and few for its payload.
+pub(crate) fn is_candidate(row: &ObjectRow) -> bool
+    ensures { result ≡ is_candidate row.now }
+{
+    row.live > 0 && u128::from(row.live) * WHOLE < MOST_LIVE * u128::from(row.payload)
 }
 
 // The place of the row of this number.

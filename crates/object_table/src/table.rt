@@ -1,13 +1,13 @@
-ghost use Rattle.std.specs.Prelude.{◌≡◌, ◌+◌, ◌<◌, ◌≤◌, ◌^◌, [], false, length, map, vec_capacity, OnOk};
-ghost use Rattle.std.specs.Prelude.{IsOk, IfSome};
+ghost use Rattle.std.specs.Prelude.{◌≡◌, ◌+◌, ◌<◌, ◌≤◌, ◌^◌, [], false, length, map, max};
+ghost use Rattle.std.specs.Prelude.{vec_capacity, OnOk, IsOk, IfSome};
 ghost use Rattle.std.specs.List.{All};
 ghost use Rattle.object_table.specs.Table.{row_of, live_of, with_changed, without, IsNewest, gained, lost};
 ghost use Rattle.object_table.specs.Table.{pinned, unpinned, new_row, added, passed, acknowledged};
-ghost use Rattle.object_table.specs.Table.{IsLowestRemovable};
-ghost use Rattle.object_table.specs.Lists.{IsListed, KeepsUnmapped, with_row};
+ghost use Rattle.object_table.specs.Table.{IsLowestRemovable, candidates, numbers};
+ghost use Rattle.object_table.specs.Lists.{Climbs, IsListed, KeepsUnmapped, with_row};
 
 use crate::list::list;
-use crate::row::{ObjectRow, is_dead, is_free, new_row, place_of};
+use crate::row::{ObjectRow, is_candidate, is_dead, is_free, new_row, place_of};
 use std::alloc::{AllocError, Global};
 use std::marker::Model;
 
@@ -25,6 +25,8 @@ pub struct ObjectTable {
     dead: Vec<u64>,
     // The objects that may be removed.
     free: Vec<u64>,
+    // The objects that a collection may take sectors from.
+    candidates: Vec<u64>,
 }
 
 impl Model for ObjectTable {
@@ -40,11 +42,12 @@ impl Model for ObjectTable {
       spare = t.room - length t.rows.items;
     } };
 
-    ghost invariant = { λ t. IsListed t.checkpoint t.rows.items t.dead.items t.free.items
+    ghost invariant = { λ t. IsListed t.checkpoint t.rows.items t.dead.items t.free.items t.candidates.items
         × (length t.rows.items ≤ t.room)
         × (t.room ≤ vec_capacity t.rows)
         × (t.room ≤ vec_capacity t.dead)
-        × (t.room ≤ vec_capacity t.free) };
+        × (t.room ≤ vec_capacity t.free)
+        × (t.room ≤ vec_capacity t.candidates) };
 }
 
 impl ObjectTable {
@@ -58,17 +61,19 @@ impl ObjectTable {
             rows: Vec::new(alloc),
             dead: Vec::new(alloc),
             free: Vec::new(alloc),
+            candidates: Vec::new(alloc),
         }
     }
 
     /// Makes room for so many more objects. The one error is out of memory, which comes only where that room
-    /// is missing. The rows are as before, and no room is lost.
+    /// is missing. The rows are as before, and no room is lost, nor more of it made than was asked for.
     pub fn reserve(&mut self, objects: usize) -> Result<(), AllocError>
         ensures ok { OnOk result (objects ≤ self.new.spare) }
         ensures succeeds { objects ≤ self.old.spare → IsOk result }
         ensures rows { self.new.rows ≡ self.old.rows }
         ensures checkpoint { self.new.checkpoint ≡ self.old.checkpoint }
         ensures spare { self.old.spare ≤ self.new.spare }
+        ensures most { self.new.spare ≤ max self.old.spare objects }
     {
         if objects <= self.spare() {
             return Ok(());
@@ -79,6 +84,7 @@ impl ObjectTable {
         make_room(&mut self.rows, room)?;
         make_room(&mut self.dead, room)?;
         make_room(&mut self.free, room)?;
+        make_room(&mut self.candidates, room)?;
         self.room = room;
         Ok(())
     }
@@ -97,8 +103,8 @@ impl ObjectTable {
         self.checkpoint
     }
 
-    /// Adds an object with so many sectors of payload and so many before it, without a live sector and
-    /// without a pin. There is room for it, and its number is greater than those of all objects and of the
+    /// Adds an object with so many sectors of payload and so many before it, without a live sector, which
+    /// nothing holds. There is room for it, and its number is greater than those of all objects and of the
     /// newest acknowledged checkpoint: objects are settled in the order of their numbers (conditions). It
     /// takes no memory.
     pub fn add(&mut self, number: u64, payload: u64, front: u64)
@@ -198,6 +204,18 @@ impl ObjectTable {
         self.free.first().copied()
     }
 
+    /// The numbers of the objects that a collection may take sectors from, ascending: those with a live
+    /// sector whose live sectors are fewer than 70 in a hundred of their payload. It looks at no other
+    /// object.
+    pub fn candidates(&self) -> &[u64]
+        ensures value { result.now ≡ candidates self.now.rows }
+
+        // Each of these numbers has one row, since the rows stand by ascending number.
+        ensures order { Climbs 0 (numbers self.now.rows) }
+    {
+        &self.candidates
+    }
+
     /// The object of this number was removed: it is no longer in the table, and there is room for one more. A
     /// number that is absent changes nothing.
     pub fn drop_row(&mut self, number: u64)
@@ -209,6 +227,7 @@ impl ObjectTable {
             self.rows.remove(at);
             list(&mut self.dead, number, false);
             list(&mut self.free, number, false);
+            list(&mut self.candidates, number, false);
         }
     }
 
@@ -234,6 +253,7 @@ impl ObjectTable {
             self.rows[at] = row;
             list(&mut self.dead, row.number, is_dead(&row));
             list(&mut self.free, row.number, is_free(&row));
+            list(&mut self.candidates, row.number, is_candidate(&row));
         }
     }
 }
@@ -248,12 +268,15 @@ fn make_room<T>(list: &mut Vec<T>, room: usize) -> Result<(), AllocError>
 }
 
 // Passes each dead object by with a checkpoint of this number: from then on the newest acknowledged
-// checkpoint does not map it, and it may be removed, unless a pin is on it.
+// checkpoint does not map it, and it may be removed, unless something holds it. No object becomes a candidate
+// by it, and none ceases to be one, since those have live sectors.
 fn pass_dead(checkpoint: u64, rows: &mut Vec<ObjectRow>, dead: &mut Vec<u64>, free: &mut Vec<u64>)
-    requires listed { IsListed checkpoint rows.old.items dead.old.items free.old.items }
+    requires listed { IsListed checkpoint rows.old.items dead.old.items free.old.items
+        (candidates rows.old.items) }
     requires below { All (λ row. row.number < checkpoint) rows.old.items }
     requires room { length rows.old.items ≤ vec_capacity free.old }
-    ensures listed { IsListed checkpoint rows.new.items dead.new.items free.new.items }
+    ensures listed { IsListed checkpoint rows.new.items dead.new.items free.new.items
+        (candidates rows.old.items) }
     ensures passed { rows.new.items ≡ map passed rows.old.items }
     ensures rows_capacity { vec_capacity rows.old ≤ vec_capacity rows.new }
     ensures dead_capacity { vec_capacity dead.old ≤ vec_capacity dead.new }

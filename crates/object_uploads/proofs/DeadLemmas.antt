@@ -11,8 +11,7 @@ use Rattle.object_format.specs.declared.data_row.DataRow.{DataRow}
 use Rattle.volume_maps.specs.declared.place.ObjectPlace.{ObjectPlace}
 use Rattle.volume_maps.specs.Places.{object_on}
 use Rattle.volume_maps.specs.Maps.{row_object_place, settled_by_row, settled_by}
-use Rattle.volume_maps.specs.Live.{is_in_object, sectors_in, live_sectors}
-use Rattle.volume_maps.specs.Kept.{is_live}
+use Rattle.volume_maps.specs.Live.{is_in_object, is_live, sectors_in, live_sectors}
 
 module _ (number : ℕ) where
   -- ---- a map without a live sector of the object has no place in it

@@ -98,7 +98,7 @@ up_to_all stream volume number end entries owned (object ∷ list) (first ∷ se
 same_after : (number : ℕ) (content : Content) (entries : List Entry) (owned others : Owners) → ((k : ℕ) → owned k ≡ others k)
     → (k : ℕ) → after_object number content entries owned k ≡ after_object number content entries others k
 same_after number Data entries owned others same k = ap (owner_by_change number (change_at entries k)) (same k)
-same_after number (Copy pairs) entries owned others same k = ap (owner_by_copy number (source_in pairs.items k)) (same k)
+same_after number (Copy pairs) entries owned others same k = ap (owner_by_copy number (source_in pairs k)) (same k)
 same_after number Checkpoint entries owned others same k = same k
 
 same_content : (stream : Stream) (expected : Expected) (content : Content) (entries : List Entry) (owned others : Owners)

@@ -30,26 +30,6 @@ use Rattle.object_uploads.proofs.QueueKept.{next_is_newest, known_same, known_mo
 
 -- ---- a data object is settled
 
--- an object that is added last is there, where all others have lower numbers
-row_added : (number : ℕ) (rows : List ObjectRow) (row : ObjectRow) → row.number ≡ number
-    → All (λ (other : ObjectRow). other.number < number) rows → row_of number (rows ++ row ∷ []) ≡ Some row
-row_added number [] row named low =
-    let it : has_number number row ≡ true = grind (arith, nat_tests) in
-    rw it refl
-row_added number (first ∷ rows) row named low =
-    let first_low : first.number < number = All-head (λ (other : ObjectRow). other.number < number) first rows low in
-    let not_it : has_number number first ≡ false = grind (arith, nat_tests) in
-    rw not_it (row_added number rows row named (All-tail (λ (other : ObjectRow). other.number < number) first rows low))
-
--- so it may gain sectors
-pub added_may_gain : (number payload front : ℕ) (table : TableState) → IsNewest table number
-    → MayGain number (added (new_row number payload front) table)
-added_may_gain number payload front table newest = (
-  new_row number payload front,
-  row_added number table.rows (new_row number payload front) refl newest.above_rows,
-  refl,
-)
-
 -- an object was added, and its rows were settled
 pub settles_added : (number size payload front end : ℕ) (rows : List DataRow) (old middle new : MapsState)
     → middle ≡ record old { objects = added (new_row number payload front) old.objects } → front ≡ front_of rows

@@ -2,13 +2,16 @@
 use Rattle.std.proofs.Common.{◌≡◌, ◌+◌, ◌-◌, ◌<◌, ◌≤◌, ℕ, zero, suc, List, [], ◌∷◌, ◌++◌, length, drop, refl, sym, ◌∙◌, ap}
 use Rattle.std.proofs.Common.{subst, arith, min}
 use Rattle.std.specs.Prelude.{Option, Some, None, IsSome, option_map, option_to_list}
-use Rattle.std.specs.List.{sum_by}
+use Rattle.std.specs.List.{All, AllByRecursion, sum_by}
+use Rattle.std.proofs.lemmas.List.Elements.{All-nil, All-cons}
 use Rattle.std.proofs.lemmas.List.Sums.{sum_by-cons, sum_by_push}
 use Rattle.lsvd_objstore.specs.Store.{ReceiptState}
+use Rattle.object_format.specs.declared.data_row.DataRow.{DataRow}
 use Rattle.object_uploads.specs.declared.rows.SealedRows.{SealedRows}
 use Rattle.volume_maps.specs.Maps.{MapsState}
 use Rattle.object_uploads.specs.State.{SealedState, QueueState}
-use Rattle.object_uploads.specs.Queue.{count_of_rows, row_count, with_at, HasRoomForRows, HasRoomForObject, IsWaiting, FirstWaits}
+use Rattle.object_uploads.specs.Queue.{count_of_rows, row_count, with_at, FitsVolume, HasRoomForRows, HasRoomForObject}
+use Rattle.object_uploads.specs.Queue.{IsWaiting, FirstWaits}
 use Rattle.object_uploads.specs.Invariant.{MaySettle, AllMaySettle}
 use Rattle.object_uploads.proofs.QueueLemmas.{rows_with, length-with}
 
@@ -215,3 +218,14 @@ room_entered sealed before after room log same has = record {
   settled = rw same has.settled;
   log = omega (arith, room, log);
 }
+
+-- ---- where rows end
+
+-- rows that fit a volume end at 2^31 at most, as the volume does
+pub rows_end : (sectors : ℕ) (rows : List DataRow) → sectors ≤ 2147483648 → AllByRecursion (FitsVolume sectors) rows
+    → All (λ (row : DataRow). row.lba + row.sectors ≤ 2147483648) rows
+rows_end sectors [] most fit = All-nil (λ (row : DataRow). row.lba + row.sectors ≤ 2147483648)
+rows_end sectors (row ∷ rows) most fit =
+    let ends = fit.0.sectors_are in
+    All-cons (λ (row : DataRow). row.lba + row.sectors ≤ 2147483648) row rows (omega (arith, most, ends))
+    (rows_end sectors rows most fit.1)

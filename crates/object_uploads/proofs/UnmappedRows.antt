@@ -16,8 +16,7 @@ use Rattle.object_table.proofs.Listed.{found_holds}
 use Rattle.volume_maps.specs.declared.place.ObjectPlace.{ObjectPlace}
 use Rattle.volume_maps.specs.Places.{object_on}
 use Rattle.volume_maps.specs.Maps.{MapsState, settled_at, settled_by}
-use Rattle.volume_maps.specs.Live.{IsCounted, MayGain, but_live, HasSameObjects}
-use Rattle.volume_maps.specs.Kept.{is_live}
+use Rattle.volume_maps.specs.Live.{is_live, IsCounted, MayGain, but_live, HasSameObjects}
 use Rattle.volume_maps.proofs.TableLemmas.{changed_unseen}
 use Rattle.object_uploads.specs.Order.{IsDeadIn, IsUnmappedIn, UnmappedAreDead}
 use Rattle.object_uploads.proofs.DeadLemmas.{nowhere, none_live}

@@ -8,10 +8,12 @@ use Rattle.object_format.specs.declared.data_row.DataRow.{DataRow}
 use Rattle.object_table.specs.declared.row.ObjectRow.{ObjectRow}
 use Rattle.object_table.specs.Table.{numbers}
 use Rattle.object_table.specs.Lists.{Climbs}
+use Rattle.reverse_map.specs.declared.range.SectorRange.{SectorRange}
 use Rattle.volume_maps.specs.declared.place.ObjectPlace.{ObjectPlace}
 use Rattle.volume_maps.specs.Places.{object_on}
 use Rattle.volume_maps.specs.Maps.{RowsFit}
 use Rattle.volume_maps.specs.Live.{IsCounted}
+use Rattle.volume_maps.specs.Covered.{CoverRows}
 use Rattle.object_uploads.specs.declared.rows.SealedRows.{SealedRows}
 use Rattle.object_uploads.specs.declared.rows.SealedRows.TheVariants.{Data, Checkpoint}
 use Rattle.lsvd_objstore.specs.Store.{ReceiptState}
@@ -35,6 +37,11 @@ pub record MapsCanTake (rows : List DataRow) : Type 0 where
 abbrev pub MaySettle : SealedRows → Type 0
 MaySettle (Data list) = MapsCanTake list.items
 MaySettle Checkpoint = Unit {0}
+
+-- ranges have all sectors that a sealed object's rows put
+abbrev pub CoverSealed : List SectorRange → SealedRows → Type 0
+CoverSealed ranges (Data list) = CoverRows ranges list.items
+CoverSealed ranges Checkpoint = Unit {0}
 
 -- and of those of all objects past the frontier
 abbrev pub AllMaySettle : List SealedState → Type 0

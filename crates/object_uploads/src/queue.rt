@@ -10,10 +10,12 @@ ghost use Rattle.object_table.specs.Table.{unpinned, IsNewest};
 ghost use Rattle.volume_maps.specs.Places.{log_number, row_left_by, object_on};
 ghost use Rattle.volume_maps.specs.Maps.{settled_at};
 ghost use Rattle.volume_maps.specs.Live.{MayGain, HasSameObjects};
+ghost use Rattle.volume_maps.specs.Covered.{CoverRows};
 ghost use Rattle.object_uploads.specs.Checkpoint.{HoldsPlaces};
 ghost use Rattle.object_uploads.specs.Order.{PlacesFitIn};
 ghost use Rattle.object_uploads.specs.Removal.{IsRemovedNext, with_receipt_of};
-ghost use Rattle.object_uploads.specs.Invariant.{IsOpenAt, MapsCanTake, MaySettle, count_out, IsKnown};
+ghost use Rattle.object_uploads.specs.Invariant.{IsOpenAt, MapsCanTake, MaySettle, CoverSealed};
+ghost use Rattle.object_uploads.specs.Invariant.{count_out, IsKnown};
 ghost use Rattle.object_uploads.specs.Invariant.{KeepsAllButObjects, KeepsAllButFound, TakesFromQueue};
 ghost use Rattle.object_uploads.specs.State.{QueueState};
 ghost use Rattle.object_uploads.specs.Queue.{with_at, just_sealed, with_spare, with_receipt, front_of};
@@ -32,10 +34,11 @@ use extent_map::{Extent, ExtentMap};
 use lsvd_base::{Entry, ObjectBytes, SECTOR_BYTES};
 use lsvd_objstore::Receipt;
 use object_format::{DataRow, Expected, data_front_sectors};
+use reverse_map::SectorRange;
 use std::alloc::{AllocError, Global};
 use std::collections::VecDeque;
 use std::marker::Model;
-use volume_maps::{ObjectPlace, VolumeMaps};
+use volume_maps::{NewObject, ObjectPlace, VolumeMaps};
 
 // The objects of a volume in the order of their numbers, with room for all that acknowledging them takes.
 #[derive(Drop)]
@@ -116,16 +119,18 @@ impl<R: Receipt> Queue<R> {
         }
     }
 
-    // Appends a sealed object, with all the room that it needs later. The one error is out of memory, which
-    // comes only where that room is missing.
+    // Appends a sealed object, with all the room that it needs later. The ranges have all sectors that its
+    // rows put. The one error is out of memory, which comes only where that room is missing.
     pub(crate) fn push(
         &mut self,
         object: ObjectBytes,
         spare: ObjectBytes,
         rows: SealedRows,
+        ranges: Vec<SectorRange>,
         end: u64,
     ) -> Result<(), AllocError>
         requires spare { spare ≡ object }
+        requires covered { CoverSealed ranges.items rows }
         requires fit { MaySettle rows }
         requires numbers { self.old.frontier + length self.old.sealed + 1 < 2 ^ 64 }
         ensures sealed { OnOk result (self.new.sealed ≡ self.old.sealed ++ just_sealed object rows
@@ -154,7 +159,7 @@ impl<R: Receipt> Queue<R> {
         )?;
         self.rows = all;
         self.sealed
-            .push_back_reserved(Sealed::new(object, spare, rows, end));
+            .push_back_reserved(Sealed::new(object, spare, rows, ranges, end));
         Ok(())
     }
 
@@ -176,11 +181,11 @@ impl<R: Receipt> Queue<R> {
     {
         let sealed = self.sealed.pop_front().unwrap();
         let size = sealed.size();
-        let (rows, end, receipt) = sealed.into_parts();
+        let (rows, ranges, end, receipt) = sealed.into_parts();
         self.rows -= rows.count();
         match &rows {
             SealedRows::Data(rows) => {
-                self.settle_object(size, rows.as_slice(), end, receipt.unwrap());
+                self.settle_object(size, rows.as_slice(), ranges, end, receipt.unwrap());
             }
             SealedRows::Checkpoint => self.settle_checkpoint(end, receipt.unwrap()),
         }
@@ -372,7 +377,11 @@ impl<R: Receipt> Queue<R> {
     {
         self.receipts.reserve(1)?;
         self.maps.reserve(0, 0, 1)?;
-        self.maps.add_object(number, payload, front);
+        self.maps.add_object(NewObject {
+            number,
+            payload,
+            front,
+        });
         self.receipts.push(number, receipt);
         Ok(())
     }
@@ -380,7 +389,7 @@ impl<R: Receipt> Queue<R> {
     // Enters a row of the checkpoint at the frontier into the objects' map. No object is past the frontier,
     // and no removal is out.
     pub(crate) fn map_found(&mut self, row: &Extent<ObjectPlace>) -> Result<(), AllocError>
-        requires range { row.now.lba + row.now.sectors < 2 ^ 63 }
+        requires range { row.now.lba + row.now.sectors ≤ 2147483648 }
         requires places { row.now.place.sector + row.now.sectors < 2 ^ 32 }
         requires known { MayGain row.now.place.number self.old.maps.objects }
         requires none { self.old.sealed ≡ [] }
@@ -396,7 +405,7 @@ impl<R: Receipt> Queue<R> {
         ensures known { OnOk result (IsKnown self.new) }
     {
         self.maps.reserve(1, 0, 0)?;
-        self.maps.map_sectors(row.lba, row.sectors, row.place);
+        self.maps.map_sectors(row.lba, row.sectors, row.place)?;
         Ok(())
     }
 
@@ -424,8 +433,16 @@ impl<R: Receipt> Queue<R> {
     }
 
     // Settles an object of so many bytes that comes after the frontier and before all that are past it. There
-    // is room for one object more, and it fits.
-    fn settle_object(&mut self, size: u64, rows: &[DataRow], end: u64, receipt: R)
+    // is room for one object more, and it fits. The ranges have all sectors that its rows put.
+    fn settle_object(
+        &mut self,
+        size: u64,
+        rows: &[DataRow],
+        ranges: Vec<SectorRange>,
+        end: u64,
+        receipt: R,
+    )
+        requires covered { CoverRows ranges.items rows.now }
         requires place { 1 ≤ self.old.places }
         requires settled { sum_by row_count self.old.sealed + length rows.now ≤ self.old.maps.settled.spare }
         requires log { sum_by row_count self.old.sealed + length rows.now ≤ self.old.maps.log.spare }
@@ -442,15 +459,26 @@ impl<R: Receipt> Queue<R> {
         let front = front_of(rows);
         self.frontier += 1;
         self.end = end;
-        self.maps
-            .add_object(self.frontier, payload_of(size, front), front);
-        self.maps.settle(self.frontier, end, rows);
+        let object = NewObject {
+            number: self.frontier,
+            payload: payload_of(size, front),
+            front,
+        };
+        self.maps.settle(object, end, rows, ranges);
         self.receipts.push(self.frontier, receipt);
     }
 
-    // Settles the next number's object, where none is past the frontier. The one error is out of memory,
-    // which comes only where room for it is missing; then only room changed.
-    pub(crate) fn adopt(&mut self, rows: &[DataRow], end: u64, receipt: R) -> Result<(), AllocError>
+    // Settles the next number's object, where none is past the frontier. The ranges have all sectors that its
+    // rows put. The one error is out of memory, which comes only where room for it is missing; then only room
+    // changed.
+    pub(crate) fn adopt(
+        &mut self,
+        rows: &[DataRow],
+        ranges: Vec<SectorRange>,
+        end: u64,
+        receipt: R,
+    ) -> Result<(), AllocError>
+        requires covered { CoverRows ranges.items rows.now }
         requires none { self.old.sealed ≡ [] }
         requires numbers { self.old.frontier + 1 < 2 ^ 64 }
         requires fit { MapsCanTake rows.now }
@@ -469,7 +497,7 @@ impl<R: Receipt> Queue<R> {
             rows.len(),
         )?;
         let size = receipt.len();
-        self.settle_object(size, rows, end, receipt);
+        self.settle_object(size, rows, ranges, end, receipt);
         Ok(())
     }
 

@@ -4,12 +4,13 @@ ghost use Rattle.extent_map.specs.Extents.{place_at};
 ghost use Rattle.volume_maps.specs.Places.{object_on};
 ghost use Rattle.object_uploads.specs.Queue.{spare_of, just_sealed, with_spare, with_receipt, row_count};
 ghost use Rattle.object_uploads.specs.Queue.{settled_by_rows, newest_of};
-ghost use Rattle.object_uploads.specs.Invariant.{MaySettle};
+ghost use Rattle.object_uploads.specs.Invariant.{MaySettle, CoverSealed};
 
 use crate::rows::SealedRows;
 use extent_map::ExtentMap;
 use lsvd_base::ObjectBytes;
 use lsvd_objstore::Receipt;
+use reverse_map::SectorRange;
 use std::marker::Model;
 use volume_maps::ObjectPlace;
 
@@ -21,6 +22,8 @@ pub(crate) struct Sealed<R: Receipt> {
     // The same bytes for the next put; none while one is under way.
     spare: Option<ObjectBytes>,
     rows: SealedRows,
+    // They have all sectors that its rows put.
+    ranges: Vec<SectorRange>,
     end: u64,
     // What the store gave for it, once it is acknowledged.
     receipt: Option<R>,
@@ -30,6 +33,7 @@ impl<R: Receipt> Model for Sealed<R> {
     ghost use Rattle.std.specs.Prelude.{◌≡◌, IfSome, option_map};
     ghost use Rattle.std.specs.Option.{is_some};
     ghost use Rattle.object_uploads.specs.State.{SealedState};
+    ghost use Rattle.object_uploads.specs.Invariant.{CoverSealed};
 
     ghost Value = { SealedState };
 
@@ -41,24 +45,29 @@ impl<R: Receipt> Model for Sealed<R> {
       receipt = option_map R.state s.receipt;
     } };
 
-    ghost invariant = { λ s. IfSome s.spare (λ bytes. bytes ≡ s.object) };
+    ghost invariant = { λ s. IfSome s.spare (λ bytes. bytes ≡ s.object)
+        × CoverSealed s.ranges.items s.rows };
 }
 
 impl<R: Receipt> Sealed<R> {
-    // The object with these rows and this end, whose bytes are given twice.
+    // The object with these rows and this end, whose bytes are given twice. The ranges have all sectors that
+    // its rows put.
     pub(crate) fn new(
         object: ObjectBytes,
         spare: ObjectBytes,
         rows: SealedRows,
+        ranges: Vec<SectorRange>,
         end: u64,
     ) -> Sealed<R>
-        requires { spare ≡ object }
+        requires spare { spare ≡ object }
+        requires covered { CoverSealed ranges.items rows }
         ensures { result ≡ just_sealed object rows end }
     {
         Sealed {
             object,
             spare: Some(spare),
             rows,
+            ranges,
             end,
             receipt: None,
         }
@@ -138,12 +147,13 @@ impl<R: Receipt> Sealed<R> {
         self.receipt = Some(receipt);
     }
 
-    // Its parts, once it is acknowledged.
-    pub(crate) fn into_parts(self) -> (SealedRows, u64, Option<R>)
+    // Its parts, once it is acknowledged: its rows with their ranges, its end, and what the store gave.
+    pub(crate) fn into_parts(self) -> (SealedRows, Vec<SectorRange>, u64, Option<R>)
         ensures rows { result.0 ≡ self.rows }
-        ensures end { result.1 ≡ self.end }
-        ensures receipt { option_map R.state result.2 ≡ self.receipt }
+        ensures covered { CoverSealed result.1.items self.rows }
+        ensures end { result.2 ≡ self.end }
+        ensures receipt { option_map R.state result.3 ≡ self.receipt }
     {
-        (self.rows, self.end, self.receipt)
+        (self.rows, self.ranges, self.end, self.receipt)
     }
 }

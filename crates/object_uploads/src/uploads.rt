@@ -9,6 +9,7 @@ ghost use Rattle.upload_window.specs.Window.{lowest_ready, IsFrontier};
 ghost use Rattle.volume_maps.specs.Places.{volume_on, volume_number, log_number, row_left_by};
 ghost use Rattle.volume_maps.specs.Maps.{volume_place_at};
 ghost use Rattle.volume_maps.specs.Live.{MayGain};
+ghost use Rattle.volume_maps.specs.Covered.{CoverRows};
 ghost use Rattle.object_uploads.specs.declared.rows.SealedRows.TheVariants.{Data};
 ghost use Rattle.object_uploads.specs.Queue.{FitObject, HasRoomForEntry, HasRoomForObject, IsEntered};
 ghost use Rattle.object_uploads.specs.Queue.{stored_at, pins_of, newest_checkpoint};
@@ -29,11 +30,12 @@ use lsvd_base::{Entry, ObjectBytes};
 use lsvd_names::ObjName;
 use lsvd_objstore::Receipt;
 use object_format::{DataRow, Expected};
+use reverse_map::SectorRange;
 use std::alloc::{AllocError, Global};
 use std::marker::Model;
 use upload_window::Window;
 use uuid::Uuid;
-use volume_maps::{ObjectPlace, VolumePlace};
+use volume_maps::{ObjectPlace, VolumePlace, put_ranges};
 
 /// The objects of a volume on their way to the store, and the maps of what the log and the objects have.
 ///
@@ -95,18 +97,36 @@ impl<R: Receipt> Uploads<R> {
         }
     }
 
+    /// The ranges of the sectors that the rows of a data object put, as `seal` and `adopt` take them. The
+    /// rows fit the volume (a condition). The one error is out of memory.
+    pub fn put_ranges(
+        &self,
+        alloc: Global,
+        rows: &[DataRow],
+    ) -> Result<Vec<SectorRange>, AllocError>
+        requires { FitObject self.now.sectors rows.now }
+        ensures { IfOk result (λ ranges. CoverRows ranges.items rows.now) }
+    {
+        // All rows end by the volume's end, so they are narrow enough for a range.
+        let _sectors = self.sectors;
+        put_ranges(alloc, rows)
+    }
+
     /// Seals a data object, which is given twice, with its rows and the count of entries up to its end, and
     /// answers its number: the next one. Fewer than 16 objects are open, the numbers go on below 2^64 - 1,
     /// and the rows are 65,536 at most, and lie inside the volume, and their places inside the greatest
-    /// payload (conditions). The one error is out of memory, which comes only where room for one object more
-    /// is missing, and after which the objects are as before: all that acknowledging it takes is made here.
+    /// payload, and the ranges have all sectors that the rows put (conditions). The one error is out of
+    /// memory, which comes only where room for one object more is missing, and after which the objects are as
+    /// before: all that acknowledging it takes is made here.
     pub fn seal(
         &mut self,
         object: ObjectBytes,
         spare: ObjectBytes,
         rows: Vec<DataRow>,
+        ranges: Vec<SectorRange>,
         end: u64,
     ) -> Result<u64, AllocError>
+        requires covered { CoverRows ranges.items rows.items }
         requires places { length self.old.window.objects < 16 }
         requires numbers { self.old.window.last + 1 < 2 ^ 64 - 1 }
         requires spare { spare ≡ object }
@@ -117,7 +137,8 @@ impl<R: Receipt> Uploads<R> {
         ensures same { OnErr result (IsNotSealed self.old self.new) }
     {
         let number = self.window.last() + 1;
-        self.queue.push(object, spare, SealedRows::Data(rows), end)?;
+        self.queue
+            .push(object, spare, SealedRows::Data(rows), ranges, end)?;
         let _ = self.window.enter(number, false);
         Ok(number)
     }
@@ -137,7 +158,7 @@ impl<R: Receipt> Uploads<R> {
         let end = self.queue.end_of_last();
         let object = self.queue.checkpoint(alloc, &expected, end)?;
         let spare = object.share()?;
-        self.queue.push(object, spare, SealedRows::Checkpoint, end)?;
+        self.queue.push(object, spare, SealedRows::Checkpoint, Vec::new(alloc), end)?;
         let _ = self.window.enter(expected.number, true);
         Ok(expected.number)
     }
@@ -292,11 +313,18 @@ impl<R: Receipt> Uploads<R> {
     /// Counts the next number's object, which is in the store, as acknowledged, and settles it: these are its
     /// rows, the count of entries up to its end, and the receipt that the store gave for it. No object is
     /// past the frontier, the numbers go on below 2^64 - 1, the end is not before that of the frontier, the
-    /// receipt has the object's name, and the rows are 65,536 at most, and lie inside the volume, and their
-    /// places inside the greatest payload (conditions).
+    /// receipt has the object's name, the rows are 65,536 at most, and lie inside the volume, and their
+    /// places inside the greatest payload, and the ranges have all sectors that the rows put (conditions).
     /// The one error is out of memory, which comes only where room for it is missing; then nothing changes
     /// but room.
-    pub fn adopt(&mut self, rows: &[DataRow], end: u64, receipt: R) -> Result<(), AllocError>
+    pub fn adopt(
+        &mut self,
+        rows: &[DataRow],
+        ranges: Vec<SectorRange>,
+        end: u64,
+        receipt: R,
+    ) -> Result<(), AllocError>
+        requires covered { CoverRows ranges.items rows.now }
         requires none { self.old.queue.sealed ≡ [] }
         requires numbers { self.old.window.last + 1 < 2 ^ 64 - 1 }
         requires order { self.old.queue.end ≤ end }
@@ -308,7 +336,7 @@ impl<R: Receipt> Uploads<R> {
         ensures same { OnErr result (IsNotSealed self.old self.new) }
         ensures order { IsUploads self.old }
     {
-        self.queue.adopt(rows, end, receipt)?;
+        self.queue.adopt(rows, ranges, end, receipt)?;
         self.window = Window::new(self.queue.frontier());
         Ok(())
     }

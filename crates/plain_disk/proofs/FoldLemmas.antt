@@ -65,7 +65,7 @@ none_after_object : (g : Geometry) (number : ℕ) (content : Content) (entries :
 none_after_object g number Data entries before k range past none =
     ap (λ c. owner_by_change number c (before k)) (no_changes_past g entries k range past) ∙ none
 none_after_object g number (Copy pairs) entries before k range past none =
-    none_by_copy number (source_in pairs.items k) (before k) none
+    none_by_copy number (source_in pairs k) (before k) none
 none_after_object g number Checkpoint entries before k range past none = none
 
 none_after : (g : Geometry) (number end : ℕ) (entries : List Entry) (before : Owners) (objects : List StreamObject) (k : ℕ)

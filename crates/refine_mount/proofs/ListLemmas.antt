@@ -24,7 +24,7 @@ use Rattle.volume_maps.specs.declared.place.ObjectPlace.{ObjectPlace}
 use Rattle.volume_maps.specs.Places.{left_at}
 use Rattle.volume_maps.specs.Maps.{settled_at}
 use Rattle.volume_maps.specs.Laws.{place_owner}
-use Rattle.volume_maps.specs.Kept.{is_live}
+use Rattle.volume_maps.specs.Live.{is_live}
 use Rattle.object_uploads.specs.State.{QueueState}
 use Rattle.object_uploads.specs.Order.{PlaceFits, AreKnown, IsUploads}
 use Rattle.object_uploads.specs.Stream.{IsPlacedIn, AreSealedOf, AreOfStream}

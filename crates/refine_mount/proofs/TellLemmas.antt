@@ -18,8 +18,7 @@ use Rattle.object_table.proofs.Listed.{found_holds}
 use Rattle.volume_maps.specs.declared.place.ObjectPlace.{ObjectPlace}
 use Rattle.volume_maps.specs.Maps.{settled_at}
 use Rattle.volume_maps.specs.Laws.{place_owner}
-use Rattle.volume_maps.specs.Live.{live_sectors, IsCounted}
-use Rattle.volume_maps.specs.Kept.{is_live}
+use Rattle.volume_maps.specs.Live.{is_live, live_sectors, IsCounted}
 use Rattle.volume_maps.proofs.LossLemmas.{known_at}
 use Rattle.object_uploads.specs.State.{QueueState}
 use Rattle.object_uploads.specs.Queue.{stored_at}

@@ -16,8 +16,7 @@ use Rattle.object_table.proofs.Listed.{found_holds}
 use Rattle.volume_maps.specs.declared.place.ObjectPlace.{ObjectPlace}
 use Rattle.volume_maps.specs.Maps.{settled_at}
 use Rattle.volume_maps.specs.Laws.{place_owner}
-use Rattle.volume_maps.specs.Live.{live_sectors}
-use Rattle.volume_maps.specs.Kept.{is_live}
+use Rattle.volume_maps.specs.Live.{is_live, live_sectors}
 use Rattle.object_uploads.specs.State.{SealedState, QueueState, UploadsState}
 use Rattle.object_uploads.specs.Queue.{with_at, with_receipt, FirstWaits}
 use Rattle.object_uploads.specs.Order.{IsUploads}

@@ -251,9 +251,9 @@ module _ (plain : PlainState) (valid : IsPlainVolume plain) (blank_is : OpensBla
         → OwnsBy (after_object (n + 1) content entries (owners stream n) k) k (after (image_at n) entries)
     by_content k Data is owns = by_change k (owners stream n k) (change_at entries k) is refl owns
     by_content k (Copy pairs) is owns =
-        subst (OwnsBy (owner_by_copy (n + 1) (source_in pairs.items k) (owners stream n k)) k)
+        subst (OwnsBy (owner_by_copy (n + 1) (source_in pairs k) (owners stream n k)) k)
         (sym (none_in (λ kind. cc)))
-        (by_copy k (owners stream n k) (source_in pairs.items k) pairs is owns)
+        (by_copy k (owners stream n k) (source_in pairs k) pairs is owns)
     by_content k Checkpoint is owns = subst (OwnsBy (owners stream n k) k) (sym (none_in (λ kind. cc))) owns
 
     one_more : (k : ℕ) → OwnsBy (owners stream n k) k (image_at n) → OwnsBy (owners stream (n + 1) k) k (image_at (n + 1))

@@ -1,5 +1,5 @@
 use crate::changes::entries;
-use object_stream::{Content, CopiedSector, Owner, PlainStream, StreamObject};
+use object_stream::{Content, CopiedSector, CopiedSectors, Owner, PlainStream, StreamObject};
 use std::alloc::{AllocError, Global};
 use test_output::{TestError, head, tell};
 
@@ -70,7 +70,11 @@ fn objects(alloc: Global) -> Result<Vec<StreamObject>, AllocError> {
 
 fn add_objects(alloc: Global, objects: &mut Vec<StreamObject>) -> Result<(), AllocError> {
     add(objects, Content::Data, 12)?;
-    add(objects, Content::Copy(COPIED.to_vec(alloc)?), 12)?;
+    add(
+        objects,
+        Content::Copy(CopiedSectors::new(COPIED.to_vec(alloc)?)),
+        12,
+    )?;
     add(objects, Content::Checkpoint, 12)?;
     add(objects, Content::Data, 13)
 }

@@ -9,8 +9,8 @@ use Rattle.extent_map.specs.Laws.{StartsFrom}
 use Rattle.extent_map.proofs.Places.{not_below, not_past, at_inside, at_past, after_row, none_before}
 use Rattle.volume_maps.specs.declared.place.ObjectPlace.{ObjectPlace}
 use Rattle.volume_maps.specs.Places.{object_on}
-use Rattle.volume_maps.specs.Live.{is_in_object, sectors_in, live_sectors}
-use Rattle.volume_maps.specs.Kept.{passing, is_live, live_between}
+use Rattle.volume_maps.specs.Live.{is_in_object, is_live, sectors_in, live_sectors}
+use Rattle.volume_maps.specs.Kept.{passing, live_between}
 
 -- ---- sectors that pass a test
 

@@ -275,6 +275,17 @@ climbs_last low (object ∷ objects) new order above below = (
       (All-tail (λ object. object.number < new.number) object objects below),
 )
 
+-- an object whose number is above all others is found last
+pub last_row : (number : ℕ) (objects : List ObjectRow) (new : ObjectRow) → new.number ≡ number
+    → All (λ object. object.number < number) objects → row_of number (objects ++ new ∷ []) ≡ Some new
+last_row number [] new same below =
+    let it : has_number number new ≡ true = grind (arith, nat_tests) in
+    rw it refl
+last_row number (object ∷ objects) new same below =
+    let low = All-head (λ object. object.number < number) object objects below in
+    let not_it : has_number number object ≡ false = grind (arith, nat_tests) in
+    rw not_it (last_row number objects new same (All-tail (λ object. object.number < number) object objects below))
+
 -- an object that is there stays so with more
 still_found : (number : ℕ) (objects more : List ObjectRow) → IsSome (row_of number objects)
     → IsSome (row_of number (objects ++ more))

@@ -18,8 +18,8 @@ use Rattle.object_table.proofs.Rows.{its_number}
 use Rattle.object_table.proofs.Listed.{found_holds}
 use Rattle.volume_maps.specs.declared.place.ObjectPlace.{ObjectPlace}
 use Rattle.volume_maps.specs.Places.{object_on}
-use Rattle.volume_maps.specs.Live.{is_in_object, sectors_in, live_sectors, HasSameObjects}
-use Rattle.volume_maps.specs.Kept.{IsKept, passing, is_live, live_between, IsCountedBut, after_loss}
+use Rattle.volume_maps.specs.Live.{is_in_object, is_live, sectors_in, live_sectors, HasSameObjects}
+use Rattle.volume_maps.specs.Kept.{IsKept, passing, live_between, IsCountedBut, after_loss}
 use Rattle.volume_maps.proofs.Counts.{split, live_nowhere, live_in_row, live_part}
 use Rattle.volume_maps.proofs.TableLemmas.{same_twice, same_changed, same_numbers, still_there, changed_all}
 

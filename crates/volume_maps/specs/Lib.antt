@@ -4,3 +4,6 @@ pub mod Live
 pub mod Kept
 pub mod Look
 pub mod Laws
+pub mod Covered
+pub mod CopyPlan
+pub mod Parts

@@ -1,5 +1,5 @@
 -- Contract: how many sectors of the objects' map are in each object, and how the table of objects changes with the map.
-use Rattle.std.specs.Prelude.{◌≡◌, ℕ, ◌==◌, ◌&&◌, Bool, false, Some, IsSome, List, map, if◌then◌else◌}
+use Rattle.std.specs.Prelude.{◌≡◌, ℕ, ◌==◌, ◌&&◌, Bool, false, Option, Some, None, IsSome, List, map, if◌then◌else◌}
 use Rattle.std.specs.List.{All, sum_by}
 use Rattle.extent_map.specs.declared.extent.Extent.{Extent}
 use Rattle.object_table.specs.declared.row.ObjectRow.{ObjectRow}
@@ -11,6 +11,11 @@ use Rattle.volume_maps.specs.declared.place.ObjectPlace.{ObjectPlace}
 -- a place is in the volume's own object of this number
 abbrev pub is_in_object : (number : ℕ) → ObjectPlace → Bool
 is_in_object number place = (place.level == 0) && (place.number == number)
+
+-- a sector's place, if it has one, is in the volume's own object of this number
+abbrev pub is_live : (number : ℕ) → Option ObjectPlace → Bool
+is_live number None = false
+is_live number (Some place) = is_in_object number place
 
 -- how many sectors a row has in that object
 abbrev pub sectors_in : (number : ℕ) → Extent ObjectPlace → ℕ

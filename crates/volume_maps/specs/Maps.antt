@@ -1,14 +1,16 @@
 -- Contract: what is seen of the maps of a volume and of its table of objects, and what changes them.
-use Rattle.std.specs.Prelude.{ℕ, ◌+◌, ◌-◌, ◌^◌, ◌<◌, nat_lt, Option, Some, None, IfSome, List, [], ◌∷◌, if◌then◌else◌}
+use Rattle.std.specs.Prelude.{ℕ, ◌+◌, ◌-◌, ◌^◌, ◌<◌, nat_lt, ◌&&◌, Option, Some, None, IfSome, List, [], ◌∷◌, if◌then◌else◌}
 use Rattle.std.specs.List.{AllByRecursion}
 use Rattle.extent_map.specs.Extents.{is_within, place_at}
 use Rattle.extent_map.specs.State.{MapState}
+use Rattle.object_format.specs.declared.copy_row.CopyRow.{CopyRow}
 use Rattle.object_format.specs.declared.data_row.DataRow.{DataRow}
 use Rattle.object_table.specs.Table.{TableState}
 use Rattle.volume_maps.specs.declared.place.ObjectPlace.{ObjectPlace}
 use Rattle.volume_maps.specs.declared.place.LogPlace.{LogPlace}
 use Rattle.volume_maps.specs.declared.place.VolumePlace.{VolumePlace}
 use Rattle.volume_maps.specs.Places.{object_on, log_on, place_seq, place_in}
+use Rattle.volume_maps.specs.Live.{is_live}
 
 -- the maps of a volume: which object has a sector that the objects up to the frontier put, and where the log has those that
 -- entries past the frontier changed; and the table of the objects up to the frontier
@@ -66,3 +68,26 @@ pub record RowFits (row : DataRow) : Type 0 where
 -- those of all rows do
 abbrev pub RowsFit : List DataRow → Type 0
 RowsFit rows = AllByRecursion RowFits rows
+
+-- ---- a copy is settled
+
+-- A sector's place in the objects' map after a row of the copy of this number: the copy has it where the map still has it in the
+-- row's source, and any other is where it was.
+abbrev pub settled_by_copy_row : (number : ℕ) → CopyRow → Option ObjectPlace → ℕ → Option ObjectPlace
+settled_by_copy_row number row before k =
+    if is_within row.lba row.sectors k && is_live row.source.number before
+    then Some (record { level = 0; number = number; sector = row.place + (k - row.lba) }) else before
+
+-- and after rows, one after the other
+abbrev pub settled_by_copy : (number : ℕ) → List CopyRow → Option ObjectPlace → ℕ → Option ObjectPlace
+settled_by_copy number [] before k = before
+settled_by_copy number (row ∷ rows) before k = settled_by_copy number rows (settled_by_copy_row number row before k) k
+
+-- the sectors of a row of a copy end below 2^63, and those that it has in the payload below 2^32
+pub record CopyRowFits (row : CopyRow) : Type 0 where
+  pub sectors : row.lba + row.sectors < 2 ^ 63
+  pub place : row.place + row.sectors < 2 ^ 32
+
+-- those of all rows do
+abbrev pub CopyRowsFit : List CopyRow → Type 0
+CopyRowsFit rows = AllByRecursion CopyRowFits rows

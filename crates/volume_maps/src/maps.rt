@@ -1,25 +1,46 @@
-ghost use Rattle.std.specs.Prelude.{◌≡◌, ◌+◌, ◌<◌, ◌≤◌, ◌^◌, ℕ, [], length, IfOk, OnOk, IsOk, IfSome};
+ghost use Rattle.std.specs.Prelude.{◌≡◌, ◌+◌, ◌<◌, ◌≤◌, ◌^◌, ℕ, ◌++◌, ◌∷◌, [], length, IfOk, OnOk, OnErr};
+ghost use Rattle.std.specs.Prelude.{IsOk, IfSome};
+ghost use Rattle.std.specs.List.{sum_by};
 ghost use Rattle.std.specs.Option.{option_or};
 ghost use Rattle.lsvd_base.specs.Laws.{first_sector, sector_count};
 ghost use Rattle.extent_map.specs.Extents.{place_at, place_in_range, place_after_set, IsShortest, AllFit};
 ghost use Rattle.object_table.specs.Table.{row_of, with_changed, without, pinned, unpinned, new_row, added};
 ghost use Rattle.object_table.specs.Table.{acknowledged, IsNewest, IsLowestRemovable};
-ghost use Rattle.volume_maps.specs.Places.{object_on, volume_on, log_number, volume_number, place_left_by};
-ghost use Rattle.volume_maps.specs.Places.{row_left_by};
-ghost use Rattle.volume_maps.specs.Maps.{settled_at, logged_at, volume_place_at, settled_by_row, settled_by};
-ghost use Rattle.volume_maps.specs.Maps.{logged_by_row, logged_by, RowFits, RowsFit};
+ghost use Rattle.reverse_map.specs.Ranges.{IsAbove};
+ghost use Rattle.volume_maps.specs.Places.{object_on, log_on, volume_on, log_number, volume_number};
+ghost use Rattle.volume_maps.specs.Places.{place_left_by, row_left_by};
+ghost use Rattle.volume_maps.specs.Maps.{settled_at, logged_at, volume_place_at, settled_by};
+ghost use Rattle.volume_maps.specs.Maps.{logged_by_row, logged_by, RowFits, RowsFit, settled_by_copy};
+ghost use Rattle.volume_maps.specs.Maps.{CopyRowsFit};
 ghost use Rattle.volume_maps.specs.Live.{IsCounted, MayGain, HasSameObjects, live_sectors};
 ghost use Rattle.volume_maps.specs.Kept.{IsKept};
+ghost use Rattle.volume_maps.specs.Covered.{CoverRows, CoverCopyRows, with_sectors};
+ghost use Rattle.volume_maps.specs.CopyPlan.{PlacesAreIn, PlansCopy};
 
+use crate::copy_plan::{copy_rows, plan_victims};
 use crate::look::look;
 use crate::place::{LogPlace, ObjectPlace, VolumePlace};
-use crate::settled::{set_counted, settle_counted};
+use crate::ranges::range_of;
+use crate::settled::{set_counted, settle_copies_counted, settle_rows_counted};
 use extent_map::{Extent, ExtentMap};
+use gc_policy::victims;
 use lsvd_base::Entry;
-use object_format::DataRow;
+use object_format::{CopyRow, DataRow};
 use object_table::{ObjectRow, ObjectTable};
+use reverse_map::{ReverseMap, SectorRange};
 use std::alloc::{AllocError, Global};
 use std::marker::Model;
+
+/// An object that comes into the table.
+#[derive(Clone, Copy, Debug)]
+pub struct NewObject {
+    /// Its number.
+    pub number: u64,
+    /// How many sectors of payload it has.
+    pub payload: u64,
+    /// How many sectors it has before the payload.
+    pub front: u64,
+}
 
 /// The two maps of a volume, and the table of its objects.
 ///
@@ -31,17 +52,23 @@ pub struct VolumeMaps {
     settled: ExtentMap<ObjectPlace>,
     log: ExtentMap<LogPlace>,
     objects: ObjectTable,
+    // For each object of the table, the sectors that the objects' map may have in it.
+    reverse: ReverseMap,
 }
 
 impl Model for VolumeMaps {
     ghost use Rattle.volume_maps.specs.Maps.{MapsState};
+    ghost use Rattle.std.specs.Prelude.{◌≤◌};
     ghost use Rattle.volume_maps.specs.Kept.{IsKept};
+    ghost use Rattle.volume_maps.specs.Covered.{IsReverse};
 
     ghost Value = { MapsState };
 
     ghost view = { λ m. record { settled = m.settled; log = m.log; objects = m.objects } };
 
-    ghost invariant = { λ m. IsKept m.settled.rows m.objects };
+    ghost invariant = { λ m. IsKept m.settled.rows m.objects
+        × IsReverse m.settled.rows m.objects m.reverse.objects
+        × (m.objects.spare ≤ m.reverse.spare) };
 }
 
 impl VolumeMaps {
@@ -55,6 +82,7 @@ impl VolumeMaps {
             settled: ExtentMap::new(alloc),
             log: ExtentMap::new(alloc),
             objects: ObjectTable::new(alloc),
+            reverse: ReverseMap::new(alloc),
         }
     }
 
@@ -77,6 +105,7 @@ impl VolumeMaps {
     {
         self.settled.reserve(settled)?;
         self.log.reserve(log)?;
+        self.reverse.reserve(objects)?;
         self.objects.reserve(objects)
     }
 
@@ -105,93 +134,110 @@ impl VolumeMaps {
         self.log.set(row.lba, row.sectors, row.place);
     }
 
-    /// Adds an object, which no sector is in yet, with so many sectors of payload and so many before it.
-    /// There is room for it, and its number is greater than those of all objects and of the newest
-    /// acknowledged checkpoint (conditions). It takes no memory.
-    pub fn add_object(&mut self, number: u64, payload: u64, front: u64)
+    /// Adds an object, which no sector is in yet: its sectors are mapped one range after the other. There is
+    /// room for it, and its number is greater than those of all objects and of the newest acknowledged
+    /// checkpoint (conditions). It takes no memory.
+    pub fn add_object(&mut self, object: NewObject)
         requires room { 1 ≤ self.old.objects.spare }
-        requires newest { IsNewest self.old.objects number }
+        requires newest { IsNewest self.old.objects object.number }
         ensures added { self.new ≡ record self.old {
-          objects = added (new_row number payload front) self.old.objects;
+          objects = added (new_row object.number object.payload object.front) self.old.objects;
         } }
         ensures counted { IsCounted self.new.settled.rows self.new.objects }
     {
-        self.objects.add(number, payload, front);
+        self.objects
+            .add(object.number, object.payload, object.front);
+        self.reverse.add_empty(object.number);
     }
 
-    /// Settles the data object of this number with these rows, whose entries end before the seq `end`: it has
-    /// the sectors that its rows put from then on, and none has those that they clear; and of its rows'
-    /// sectors the log's map keeps those alone that entries from `end` on changed. The object was added, and
-    /// no checkpoint was acknowledged since. There is room for a change of each map for each row, and the
-    /// rows end below 2^63 and their places in the payload below 2^32 (all conditions). It takes no memory.
-    pub fn settle(&mut self, number: u64, end: u64, rows: &[DataRow])
+    /// Adds a data object, and settles it with these rows, whose entries end before the seq `end`: it has the
+    /// sectors that its rows put from then on, and none has those that they clear; and of its rows' sectors
+    /// the log's map keeps those alone that entries from `end` on changed. Its number is greater than those
+    /// of all objects and of the newest acknowledged checkpoint. There is room for it, and for a change of
+    /// each map for each row; the rows end below 2^63 and their places in the payload below 2^32; and the
+    /// ranges have all sectors that the rows put (all conditions). It takes no memory.
+    pub fn settle(
+        &mut self,
+        object: NewObject,
+        end: u64,
+        rows: &[DataRow],
+        ranges: Vec<SectorRange>,
+    )
+        requires room { 1 ≤ self.old.objects.spare }
+        requires newest { IsNewest self.old.objects object.number }
         requires settled_room { length rows.now ≤ self.old.settled.spare }
         requires log_room { length rows.now ≤ self.old.log.spare }
-        requires object { MayGain number self.old.objects }
         requires fits { RowsFit rows.now }
-        ensures settled { (k : ℕ) → settled_at self.new k ≡ settled_by number rows.now
+        requires covered { CoverRows ranges.items rows.now }
+        ensures settled { (k : ℕ) → settled_at self.new k ≡ settled_by object.number rows.now
             (settled_at self.old k) k }
         ensures log { (k : ℕ) → logged_at self.new k ≡ logged_by end rows.now (logged_at self.old k) k }
-        ensures objects { HasSameObjects self.old.objects self.new.objects }
+        ensures objects { HasSameObjects (added (new_row object.number object.payload object.front)
+            self.old.objects) self.new.objects }
         ensures counted { IsCounted self.new.settled.rows self.new.objects }
         ensures shortest { IsShortest object_on self.new.settled.rows }
-        ensures object_spare { self.new.objects.spare ≡ self.old.objects.spare }
+        ensures object_spare { self.new.objects.spare + 1 ≡ self.old.objects.spare }
         ensures settled_spare { self.old.settled.spare ≤ self.new.settled.spare + length rows.now }
         ensures log_spare { self.old.log.spare ≤ self.new.log.spare + length rows.now }
     {
-        self.is_kept();
-        for row in rows {
-            self.settle_row(number, end, row);
-        }
+        add(&mut self.objects, &mut self.reverse, object, ranges);
+        settle_rows_counted(&mut self.settled, &mut self.objects, object.number, rows);
+        drop_older(&mut self.log, end, rows);
     }
 
-    // What is so of all maps, as a fact for proofs. Nothing is done.
-    fn is_kept(&self)
-        ensures { IsKept self.now.settled.rows self.now.objects }
-    {
-        let _settled = &self.settled;
-    }
-
-    // Settles one row of a data object.
-    fn settle_row(&mut self, number: u64, end: u64, row: &DataRow)
-        requires settled_room { 1 ≤ self.old.settled.spare }
-        requires log_room { 1 ≤ self.old.log.spare }
-        requires object { MayGain number self.old.objects }
-        requires fits { RowFits row.now }
-        ensures settled { (k : ℕ) → settled_at self.new k ≡ settled_by_row number row.now
+    /// Adds a copy, and settles it with these rows: it has those of its sectors that the map still has in the
+    /// source of their row, and any other is where it was. Its number is greater than those of all objects
+    /// and of the newest acknowledged checkpoint. There is room for it, and for a change of the objects' map
+    /// for each sector of the rows; the rows end below 2^63 and their places in the payload below 2^32; and
+    /// the ranges have all sectors of the rows (all conditions). The log's map stays. It takes no memory.
+    pub fn settle_copy(&mut self, object: NewObject, rows: &[CopyRow], ranges: Vec<SectorRange>)
+        requires room { 1 ≤ self.old.objects.spare }
+        requires newest { IsNewest self.old.objects object.number }
+        requires settled_room { sum_by (λ row. row.sectors) rows.now ≤ self.old.settled.spare }
+        requires fits { CopyRowsFit rows.now }
+        requires covered { CoverCopyRows ranges.items rows.now }
+        ensures settled { (k : ℕ) → settled_at self.new k ≡ settled_by_copy object.number rows.now
             (settled_at self.old k) k }
-        ensures log { (k : ℕ) → logged_at self.new k ≡ logged_by_row end row.now (logged_at self.old k) k }
-        ensures objects { HasSameObjects self.old.objects self.new.objects }
+        ensures log { self.new.log ≡ self.old.log }
+        ensures objects { HasSameObjects (added (new_row object.number object.payload object.front)
+            self.old.objects) self.new.objects }
         ensures counted { IsCounted self.new.settled.rows self.new.objects }
         ensures shortest { IsShortest object_on self.new.settled.rows }
-        ensures object_spare { self.new.objects.spare ≡ self.old.objects.spare }
-        ensures settled_spare { self.old.settled.spare ≤ self.new.settled.spare + 1 }
-        ensures log_spare { self.old.log.spare ≤ self.new.log.spare + 1 }
+        ensures object_spare { self.new.objects.spare + 1 ≡ self.old.objects.spare }
+        ensures settled_spare { self.old.settled.spare ≤ self.new.settled.spare + sum_by (λ row. row.sectors)
+            rows.now }
     {
-        settle_counted(&mut self.settled, &mut self.objects, number, row);
-        self.log
-            .clear_if(row.lba, row.sectors, |place| place.seq() < end);
+        add(&mut self.objects, &mut self.reverse, object, ranges);
+        settle_copies_counted(&mut self.settled, &mut self.objects, object.number, rows);
     }
 
     /// Gives the sectors from `lba` on the places of an object from one on, as a checkpoint's row says it.
     /// Where it is the volume's own object, it was added, and no checkpoint was acknowledged since. There is
-    /// room for a change of the objects' map, and the sectors end below 2^63 and their places below 2^32 (all
-    /// conditions). It takes no memory.
-    pub fn map_sectors(&mut self, lba: u64, sectors: u64, place: ObjectPlace)
+    /// room for a change of the objects' map, and the sectors end at 2^31 at most and their places below 2^32
+    /// (all conditions). The one error is out of memory; then nothing changes.
+    pub fn map_sectors(
+        &mut self,
+        lba: u64,
+        sectors: u64,
+        place: ObjectPlace,
+    ) -> Result<(), AllocError>
         requires room { 1 ≤ self.old.settled.spare }
-        requires range { lba + sectors < 2 ^ 63 }
+        requires range { lba + sectors ≤ 2147483648 }
         requires places { place.sector + sectors < 2 ^ 32 }
         requires object { place.level ≡ 0 → MayGain place.number self.old.objects }
-        ensures settled { (k : ℕ) → settled_at self.new k ≡ place_after_set object_on lba sectors place
-            (settled_at self.old) k }
+        ensures settled { OnOk result ((k : ℕ) → settled_at self.new k ≡ place_after_set object_on lba sectors
+            place (settled_at self.old) k) }
         ensures log { self.new.log ≡ self.old.log }
         ensures objects { HasSameObjects self.old.objects self.new.objects }
         ensures counted { IsCounted self.new.settled.rows self.new.objects }
         ensures shortest { IsShortest object_on self.new.settled.rows }
         ensures object_spare { self.new.objects.spare ≡ self.old.objects.spare }
         ensures spare { self.old.settled.spare ≤ self.new.settled.spare + 1 }
+        ensures same { OnErr result (self.new ≡ self.old) }
     {
+        add_sectors(&mut self.reverse, lba, sectors, place)?;
         set_counted(&mut self.settled, &mut self.objects, lba, sectors, place);
+        Ok(())
     }
 
     /// A checkpoint is acknowledged, which holds the objects' map as it is now, and is added: all objects
@@ -203,6 +249,7 @@ impl VolumeMaps {
         ensures counted { IsCounted self.new.settled.rows self.new.objects }
     {
         self.objects.acknowledge_checkpoint(number);
+        self.reverse.add_empty(number);
     }
 
     /// What is known of the object of this number; none where it is absent. The table counts just the sectors
@@ -245,6 +292,27 @@ impl VolumeMaps {
         self.objects.unpin(number);
     }
 
+    /// The rows of the copy that a collection makes: the live sectors of the victims, so many at most, victim
+    /// by victim, and by their place in the volume within one. No rows are where there is no victim. The
+    /// volume has so many sectors, all places are in it and inside the greatest payload, and 131,071 sectors
+    /// are planned at most (conditions). The cost is by candidates, and by the ranges of the victims that are
+    /// copied. The one error is out of memory.
+    pub fn plan_copy(
+        &self,
+        alloc: Global,
+        sectors: u64,
+        most: u64,
+    ) -> Result<Vec<CopyRow>, AllocError>
+        requires volume { sectors ≤ 2147483648 }
+        requires most { most ≤ 131071 }
+        requires places { PlacesAreIn sectors self.now }
+        ensures { IfOk result (λ rows. PlansCopy sectors most self.now rows.items) }
+    {
+        let victims = victims(alloc, &self.objects)?;
+        let planned = plan_victims(alloc, &self.settled, &self.reverse, &victims, most)?;
+        copy_rows(alloc, &planned)
+    }
+
     /// The lowest number of an object that may be removed: the newest acknowledged checkpoint has a greater
     /// number and does not map it, and it is not pinned. None is where there is no such object.
     pub fn removable(&self) -> Option<u64>
@@ -266,6 +334,7 @@ impl VolumeMaps {
         ensures log { self.new.log ≡ self.old.log }
     {
         self.objects.drop_row(number);
+        self.reverse.drop_object(number);
     }
 
     /// The objects' map.
@@ -292,6 +361,68 @@ impl VolumeMaps {
     {
         look(alloc, &self.settled, &self.log, lba, sectors)
     }
+}
+
+// Adds an object with its ranges to a table and to the reverse of a map.
+fn add(
+    objects: &mut ObjectTable,
+    reverse: &mut ReverseMap,
+    object: NewObject,
+    ranges: Vec<SectorRange>,
+)
+    requires room { 1 ≤ objects.old.spare }
+    requires reverse_room { objects.old.spare ≤ reverse.old.spare }
+    requires newest { IsNewest objects.old object.number }
+    requires above { IsAbove reverse.old.objects object.number }
+    ensures objects { objects.new ≡ added (new_row object.number object.payload object.front) objects.old }
+    ensures reverse { reverse.new.objects ≡ reverse.old.objects
+        ++ record { number = object.number; ranges = ranges.items } ∷ [] }
+    ensures room { objects.new.spare ≤ reverse.new.spare }
+{
+    objects.add(object.number, object.payload, object.front);
+    reverse.add(object.number, ranges);
+}
+
+// Adds sectors to the ranges of the object that has them at a place, where it is one of the volume's own.
+fn add_sectors(
+    reverse: &mut ReverseMap,
+    lba: u64,
+    sectors: u64,
+    place: ObjectPlace,
+) -> Result<(), AllocError>
+    requires { lba + sectors ≤ 2147483648 }
+    ensures added { OnOk result (reverse.new.objects ≡ with_sectors lba sectors place reverse.old.objects) }
+    ensures same { OnErr result (reverse.new.objects ≡ reverse.old.objects) }
+    ensures spare { reverse.new.spare ≡ reverse.old.spare }
+{
+    if place.level == 0 {
+        reverse.add_range(place.number, range_of(lba, sectors))?;
+    }
+    Ok(())
+}
+
+// Drops from the log's map the sectors of the rows of a data object that entries before the seq `end` left.
+fn drop_older(log: &mut ExtentMap<LogPlace>, end: u64, rows: &[DataRow])
+    requires room { length rows.now ≤ log.old.spare }
+    requires fits { RowsFit rows.now }
+    ensures places { (k : ℕ) → place_at log_on log.new.rows k ≡ logged_by end rows.now
+        (place_at log_on log.old.rows k) k }
+    ensures spare { log.old.spare ≤ log.new.spare + length rows.now }
+{
+    for row in rows {
+        drop_older_in(log, end, row);
+    }
+}
+
+// Drops those of one row.
+fn drop_older_in(log: &mut ExtentMap<LogPlace>, end: u64, row: &DataRow)
+    requires room { 1 ≤ log.old.spare }
+    requires fits { RowFits row.now }
+    ensures places { (k : ℕ) → place_at log_on log.new.rows k ≡ logged_by_row end row.now
+        (place_at log_on log.old.rows k) k }
+    ensures spare { log.old.spare ≤ log.new.spare + 1 }
+{
+    log.clear_if(row.lba, row.sectors, |place| place.seq() < end);
 }
 
 // The row of an entry in the log's map.

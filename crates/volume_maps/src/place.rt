@@ -1,5 +1,6 @@
 ghost use Rattle.std.specs.Prelude.{◌≡◌};
 ghost use Rattle.volume_maps.specs.Places.{place_seq};
+ghost use Rattle.volume_maps.specs.Live.{is_in_object};
 
 use extent_map::Place;
 
@@ -16,6 +17,15 @@ pub struct ObjectPlace {
     pub level: u32,
     /// The sector of the object's payload: the sector N is its 512 bytes from byte 512 N of the payload on.
     pub sector: u32,
+}
+
+impl ObjectPlace {
+    /// Whether it is in the volume's own object of this number.
+    pub fn is_in(&self, number: u64) -> bool
+        ensures { result ≡ is_in_object number self.now }
+    {
+        self.level == 0 && self.number == number
+    }
 }
 
 impl Place for ObjectPlace {

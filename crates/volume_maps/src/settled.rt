@@ -1,14 +1,16 @@
 ghost use Rattle.std.specs.Prelude.{◌≡◌, ◌+◌, ◌<◌, ◌≤◌, ◌^◌, ℕ, false, length, IfSome};
+ghost use Rattle.std.specs.List.{sum_by};
 ghost use Rattle.extent_map.specs.Extents.{place_at, place_after_set, place_after_clear};
 ghost use Rattle.object_table.specs.Table.{row_of, live_of};
 ghost use Rattle.volume_maps.specs.Places.{object_on};
 ghost use Rattle.volume_maps.specs.Maps.{settled_by_row, settled_by, RowFits, RowsFit};
+ghost use Rattle.volume_maps.specs.Maps.{settled_by_copy_row, settled_by_copy, CopyRowFits, CopyRowsFit};
 ghost use Rattle.volume_maps.specs.Live.{MayGain, HasSameObjects};
-ghost use Rattle.volume_maps.specs.Kept.{IsKept, IsCountedBut, after_loss, after_gain};
+ghost use Rattle.volume_maps.specs.Kept.{IsKept, IsCountedBut, after_loss, after_gain, place_in_copy};
 
 use crate::place::ObjectPlace;
 use extent_map::{Extent, ExtentMap};
-use object_format::DataRow;
+use object_format::{CopyRow, DataRow};
 use object_table::ObjectTable;
 
 /// Settles the rows of the data object of this number in a map, whose counts nobody keeps: as a map has them
@@ -40,8 +42,31 @@ fn settle_in(map: &mut ExtentMap<ObjectPlace>, number: u64, row: &DataRow)
     }
 }
 
-// Settles one row of a data object in the objects' map, whose sectors a table counts.
-pub(crate) fn settle_counted(
+// Settles the rows of a data object in the objects' map, whose sectors a table counts.
+pub(crate) fn settle_rows_counted(
+    settled: &mut ExtentMap<ObjectPlace>,
+    objects: &mut ObjectTable,
+    number: u64,
+    rows: &[DataRow],
+)
+    requires room { length rows.now ≤ settled.old.spare }
+    requires fits { RowsFit rows.now }
+    requires object { MayGain number objects.old }
+    requires kept { IsKept settled.old.rows objects.old }
+    ensures places { (k : ℕ) → place_at object_on settled.new.rows k ≡ settled_by number rows.now
+        (place_at object_on settled.old.rows k) k }
+    ensures spare { settled.old.spare ≤ settled.new.spare + length rows.now }
+    ensures kept { IsKept settled.new.rows objects.new }
+    ensures same { HasSameObjects objects.old objects.new }
+    ensures object_spare { objects.new.spare ≡ objects.old.spare }
+{
+    for row in rows {
+        settle_counted(settled, objects, number, row);
+    }
+}
+
+// Settles one row of a data object there, as `settle_in` does in a map alone.
+fn settle_counted(
     settled: &mut ExtentMap<ObjectPlace>,
     objects: &mut ObjectTable,
     number: u64,
@@ -64,6 +89,103 @@ pub(crate) fn settle_counted(
             set_counted(settled, objects, row.lba, row.sectors, place);
         }
         None => clear_counted(settled, objects, row.lba, row.sectors),
+    }
+}
+
+/// Settles the rows of the copy of this number in a map, whose counts nobody keeps, as `settle_rows` does
+/// those of a data object. There is room for a change for each sector of the rows, and the rows end below
+/// 2^63 and their places in the payload below 2^32 (conditions). It takes no memory.
+pub fn settle_copies(map: &mut ExtentMap<ObjectPlace>, number: u64, rows: &[CopyRow])
+    requires room { sum_by (λ row. row.sectors) rows.now ≤ map.old.spare }
+    requires fits { CopyRowsFit rows.now }
+    ensures places { (k : ℕ) → place_at object_on map.new.rows k ≡ settled_by_copy number rows.now
+        (place_at object_on map.old.rows k) k }
+    ensures spare { map.old.spare ≤ map.new.spare + sum_by (λ row. row.sectors) rows.now }
+{
+    for row in rows {
+        settle_copy_in(map, number, row);
+    }
+}
+
+// Settles one row of a copy in a map: each part of its sectors that the map has still in the row's source.
+fn settle_copy_in(map: &mut ExtentMap<ObjectPlace>, number: u64, row: &CopyRow)
+    requires room { row.now.sectors ≤ map.old.spare }
+    requires fits { CopyRowFits row.now }
+    ensures places { (k : ℕ) → place_at object_on map.new.rows k ≡ settled_by_copy_row number row.now
+        (place_at object_on map.old.rows k) k }
+    ensures spare { map.old.spare ≤ map.new.spare + row.now.sectors }
+{
+    let (mut from, end) = (row.lba, row.lba + row.sectors);
+    while let Some(part) = map.first_in(from, end - from) {
+        if let Some(place) = place_in_copy(number, row, &part) {
+            map.set(part.lba, part.sectors, place);
+        }
+        from = part.lba + part.sectors;
+    }
+}
+
+// Settles the rows of a copy in the objects' map, whose sectors a table counts.
+pub(crate) fn settle_copies_counted(
+    settled: &mut ExtentMap<ObjectPlace>,
+    objects: &mut ObjectTable,
+    number: u64,
+    rows: &[CopyRow],
+)
+    requires room { sum_by (λ row. row.sectors) rows.now ≤ settled.old.spare }
+    requires fits { CopyRowsFit rows.now }
+    requires object { MayGain number objects.old }
+    requires kept { IsKept settled.old.rows objects.old }
+    ensures places { (k : ℕ) → place_at object_on settled.new.rows k ≡ settled_by_copy number rows.now
+        (place_at object_on settled.old.rows k) k }
+    ensures spare { settled.old.spare ≤ settled.new.spare + sum_by (λ row. row.sectors) rows.now }
+    ensures kept { IsKept settled.new.rows objects.new }
+    ensures same { HasSameObjects objects.old objects.new }
+    ensures object_spare { objects.new.spare ≡ objects.old.spare }
+{
+    for row in rows {
+        settle_copy_counted(settled, objects, number, row);
+    }
+}
+
+// Settles one row of a copy there, as `settle_copy_in` does in a map alone.
+fn settle_copy_counted(
+    settled: &mut ExtentMap<ObjectPlace>,
+    objects: &mut ObjectTable,
+    number: u64,
+    row: &CopyRow,
+)
+    requires room { row.now.sectors ≤ settled.old.spare }
+    requires fits { CopyRowFits row.now }
+    requires object { MayGain number objects.old }
+    requires kept { IsKept settled.old.rows objects.old }
+    ensures places { (k : ℕ) → place_at object_on settled.new.rows k ≡ settled_by_copy_row number row.now
+        (place_at object_on settled.old.rows k) k }
+    ensures spare { settled.old.spare ≤ settled.new.spare + row.now.sectors }
+    ensures kept { IsKept settled.new.rows objects.new }
+    ensures same { HasSameObjects objects.old objects.new }
+    ensures object_spare { objects.new.spare ≡ objects.old.spare }
+{
+    let (mut from, end) = (row.lba, row.lba + row.sectors);
+    while let Some(part) = settled.first_in(from, end - from) {
+        if let Some(place) = place_in_copy(number, row, &part) {
+            set_counted(settled, objects, part.lba, part.sectors, place);
+        }
+        from = part.lba + part.sectors;
+    }
+}
+
+// Where the copy of this number has a part of a row's sectors, which a map has there; none where the map has
+// them in another object than the row's source.
+fn place_in_copy(number: u64, row: &CopyRow, part: &Extent<ObjectPlace>) -> Option<ObjectPlace>
+    requires fits { CopyRowFits row.now }
+    requires from { row.now.lba ≤ part.now.lba }
+    requires to { part.now.lba + part.now.sectors ≤ row.now.lba + row.now.sectors }
+    ensures { result ≡ place_in_copy number row.now part.now }
+{
+    if part.place.is_in(row.source.number) {
+        Some(own_place(number, row.place + (part.lba - row.lba)))
+    } else {
+        None
     }
 }
 

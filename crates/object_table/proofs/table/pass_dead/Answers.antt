@@ -7,7 +7,7 @@ use Rattle.object_table.proofs.Passing.{IsPassing, pass_at, pass_nowhere, all_pa
 use Rattle.object_table.proofs.table.pass_dead.Goals as goal
 
 pub list-requires-clause-order : goal.list-requires-clause-order
-list-requires-clause-order c = (orders _ _ _ _ c.loop-number.invariant.0.listed).1
+list-requires-clause-order c = (orders _ _ _ _ _ c.loop-number.invariant.0.listed).1
 
 pub list-requires-clause-room : goal.list-requires-clause-room
 list-requires-clause-room c =
@@ -18,7 +18,7 @@ list-requires-clause-room c =
     let step =
     pass_at c.args.checkpoint c.in-Some-place_of.at c.in-Some.number c.index.result.now c.args.rows.now.items
     c.loop-number.rows.items c.pop.new.self.items c.loop-number.free.items passes place c.index.ensures in
-    let few = (are_few _ _ _ _ step.1.listed).1 in
+    let few = (are_few _ _ _ _ _ step.1.listed).1 in
     let same = length-with_row (record c.index.result.now { is_unmapped = true }) c.loop-number.rows.items in
     rw c.is_free.ensures (omega (arith, few, same, c.loop-number.invariant.1))
 

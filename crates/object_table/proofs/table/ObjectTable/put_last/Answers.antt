@@ -1,12 +1,10 @@
-use Rattle.std.proofs.Common.{List, ℕ, append-nil, ◌-◌, ◌≤◌, ◌<◌, ◌≡◌, ◌∙◌, ◌∷◌, ◌++◌}
-use Rattle.std.proofs.Common.{[], true, false, cond, nat_eq, refl, subst, sym, arith}
+use Rattle.std.proofs.Common.{◌-◌, ◌≤◌, ◌<◌, ◌≡◌, ◌∙◌, ◌∷◌, ◌++◌}
+use Rattle.std.proofs.Common.{[], true, refl, subst, sym, arith}
 use Rattle.std.specs.Prelude.{is_ok, length}
 use Rattle.std.specs.List.{All}
 use Rattle.std.proofs.lemmas.List.{length_push}
-use Rattle.std.proofs.lemmas.Bool.Decides.{nat_tests}
 use Rattle.object_table.specs.declared.row.ObjectRow.{ObjectRow}
 use Rattle.object_table.specs.Table.{TableState}
-use Rattle.object_table.specs.Lists.{IsListed}
 use Rattle.object_table.proofs.Listed.{are_few, listed_last}
 use Rattle.object_table.proofs.table.ObjectTable.put_last.Goals as goal
 
@@ -17,22 +15,21 @@ invariant_of-self c =
     let lower =
     subst (λ (t : TableState). All (λ (other : ObjectRow). other.number < c.args.row.number) t.rows) (sym c.self.view_is)
     c.requires.last in
-    let few = are_few _ _ _ _ c.self.invariant.0 in
+    let few = are_few _ _ _ _ _ c.self.invariant.0 in
     let fits : is_ok c.push.result ≡ true =
     c.push.ensures.succeeds (omega (arith, free_place, c.self.invariant.2, c.self.inside.rows.ok.0)) in
     let rows : c.push.new.self.items ≡ c.self.inside.rows.items ++ c.args.row ∷ [] = c.push.ensures.items ∙ (rw fits refl) in
     let fits_dead : is_ok c.push-2.result ≡ true =
     c.push-2.ensures.succeeds
     (omega (arith, free_place, few.0, c.self.invariant.3, c.self.inside.dead.ok.0)) in
-    let dies : nat_eq c.args.row.live 0 ≡ true = (let none = c.requires.dead in grind (arith, nat_tests, none)) in
-    let dead : c.push-2.new.self.items
-    ≡ c.self.inside.dead.items ++ cond (nat_eq c.args.row.live 0) (c.args.row.number ∷ []) [] =
-    c.push-2.ensures.items ∙ (rw (fits_dead, dies) refl) in
+    let dead : c.push-2.new.self.items ≡ c.self.inside.dead.items ++ c.args.row.number ∷ [] =
+    c.push-2.ensures.items ∙ (rw fits_dead refl) in
     let longer = length_push c.self.inside.rows.items c.args.row in
     rw (rows, dead) (
-      listed_last _ c.args.row _ _ _ c.requires.some lower c.requires.mapped c.self.invariant.0,
+      listed_last _ c.args.row _ _ _ _ c.requires.some lower c.requires.dead c.requires.mapped c.self.invariant.0,
       omega (arith, longer, free_place),
       omega (arith, c.self.invariant.2, c.push.ensures.capacity),
       omega (arith, c.self.invariant.3, c.push-2.ensures.capacity),
       c.self.invariant.4,
+      c.self.invariant.5,
     )

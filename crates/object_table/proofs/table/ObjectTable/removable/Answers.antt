@@ -7,4 +7,6 @@ pub returns : goal.returns
 returns c =
     let first =
     c.copied.ensures ∙ c.first.ensures.value ∙ ap (λ (free : List ℕ). slice_get free 0) c.deref.ensures.value in
-    rw (← c.self.view_is, first) (lowest _ c.self.inside.dead.items c.self.inside.free.items c.self.invariant.0)
+    let table = c.self.inside in
+    rw (← c.self.view_is, first)
+    (lowest _ table.dead.items table.free.items table.candidates.items c.self.invariant.0)

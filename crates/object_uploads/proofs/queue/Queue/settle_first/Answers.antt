@@ -50,7 +50,7 @@ returns-in-Data g c =
     let own = c.into_parts-rows.ensures in
     let given = sym own.receipt ∙ ap (option_map g.R.Receipt.state) c.unwrap.ensures in
     let e = c.settle_object.ensures in
-    let maps = subst (λ rows. SettlesObject next c.size-size.result rows c.into_parts-rows.result.1 c.self.inside.maps
+    let maps = subst (λ rows. SettlesObject next c.size-size.result rows c.into_parts-rows.result.2 c.self.inside.maps
     c.settle_object.new.self.maps) c.as_slice.ensures.value e.maps in
     subst (λ (q : QueueState). IsSettledBy 1 q c.settle_object.new.self) c.self.view_is (
     settles_one _ _ c.unwrap-sealed.result c.pop_front.new.self.items (g.R.Receipt.state c.unwrap.result) parts given e.frontier
@@ -69,6 +69,6 @@ returns g c =
     subst (λ (q : QueueState). IsSettledBy 1 q c.settle_checkpoint.new.self) c.self.view_is (
     settles_one _ _ c.unwrap-sealed.result c.pop_front.new.self.items (g.R.Receipt.state c.unwrap-in-Checkpoint.result) parts
     given e.frontier (e.end ∙ own.end) e.sealed e.receipts e.removal
-    (settles_as next c.size-size.result _ c.into_parts-rows.result.1 _ Checkpoint _ _ _ c.size-size.ensures
+    (settles_as next c.size-size.result _ c.into_parts-rows.result.2 _ Checkpoint _ _ _ c.size-size.ensures
     (sym c.in-Checkpoint.is ∙ own.rows) own.end e.maps)
     )

@@ -1,44 +1,57 @@
-use Rattle.std.proofs.Common.{None, ◌≡◌, ◌+◌, suc, take, get_or, sym, ◌∙◌, ap, arith}
-use Rattle.std.proofs.Math.Seq.{take-suc}
-use Rattle.extent_map.specs.Extents.{place_at}
-use Rattle.object_format.specs.declared.data_row.DataRow.{DataRow}
-use Rattle.volume_maps.specs.Places.{object_on, log_on}
-use Rattle.volume_maps.specs.Maps.{settled_by_row, settled_by, logged_by_row, logged_by}
-use Rattle.volume_maps.proofs.SettleLemmas.{settled_push, logged_push}
-use Rattle.volume_maps.proofs.TableLemmas.{same_twice, still_gains}
+use Rattle.std.proofs.Common.{◌≡◌, sym, subst, arith}
+use Rattle.object_table.specs.Table.{IsNewest}
+use Rattle.reverse_map.specs.Ranges.{ranges_of}
+use Rattle.volume_maps.specs.Live.{MayGain}
+use Rattle.volume_maps.specs.Maps.{MapsState}
+use Rattle.volume_maps.specs.Covered.{IsReverse}
+use Rattle.volume_maps.proofs.RangeLemmas.{above_ranges, last_ranges}
+use Rattle.volume_maps.proofs.ReverseLemmas.{kept_added, reverse_added, gains_added, reverse_settled}
+use Rattle.volume_maps.proofs.TableLemmas.{same_numbers}
 use Rattle.volume_maps.proofs.maps.VolumeMaps.settle.Goals as goal
 
-pub settle_row-requires-clause-object : goal.settle_row-requires-clause-object
-settle_row-requires-clause-object c =
-    still_gains c.args.number c.args.self.now.objects c.loop-row.self.objects c.loop-row.invariant.objects c.requires.object
+pub add-requires-clause-above : goal.add-requires-clause-above
+add-requires-clause-above c =
+    let number = c.args.object.number in
+    let newest = subst (λ (maps : MapsState). IsNewest maps.objects number) (sym c.self.view_is) c.requires.newest in
+    above_ranges number c.self.inside.reverse.objects c.self.inside.objects.rows c.self.invariant.1.known newest.above_rows
 
-pub loop-row-preserved : goal.loop-row-preserved
-loop-row-preserved c =
-    let rows = c.args.rows.now in
-    let i = c.loop-row.row-index in
-    let number = c.args.number in
-    let end = c.args.end in
-    let settled = place_at object_on c.args.self.now.settled.rows in
-    let log = place_at log_on c.args.self.now.log.rows in
-    let kept = c.loop-row.invariant in
-    let step = c.settle_row.ensures in
-    let next : i + 1 ≡ suc i = omega arith in
-    let none : DataRow = record { lba = 0; sectors = 0; place = None } in
-    let row = get_or rows i none in
-    let split = ap (λ n. take n rows) next ∙ take-suc rows i none c.loop-row-test.true in
-    record {
-      settled = λ k.
-          step.settled k ∙ (ap (λ p. settled_by_row number row p k) (kept.settled k)
-          ∙ (sym (settled_push number (take i rows) row (settled k) k)
-          ∙ sym (ap (λ xs. settled_by number xs (settled k) k) split)));
-      log = λ k.
-          step.log k ∙ (ap (λ p. logged_by_row end row p k) (kept.log k)
-          ∙ (sym (logged_push end (take i rows) row (log k) k) ∙ sym (ap (λ xs. logged_by end xs (log k) k) split)));
-      objects = same_twice c.args.self.now.objects c.loop-row.self.objects c.settle_row.new.self.objects kept.objects
-          step.objects;
-      counted = step.counted;
-      shortest = step.shortest;
-      object_spare = step.object_spare ∙ kept.object_spare;
-      settled_spare = omega (arith, kept.settled_spare, step.settled_spare);
-      log_spare = omega (arith, kept.log_spare, step.log_spare);
-    }
+pub settle_rows_counted-requires-clause-object : goal.settle_rows_counted-requires-clause-object
+settle_rows_counted-requires-clause-object c =
+    let new = c.args.object in
+    let newest = subst (λ (maps : MapsState). IsNewest maps.objects new.number) (sym c.self.view_is) c.requires.newest in
+    subst (MayGain new.number) (sym c.add.ensures.objects) (
+    gains_added c.self.inside.settled.rows c.self.inside.objects c.self.inside.reverse.objects new.number new.payload new.front
+    c.self.invariant.0 c.self.invariant.1 newest
+    )
+
+pub settle_rows_counted-requires-clause-kept : goal.settle_rows_counted-requires-clause-kept
+settle_rows_counted-requires-clause-kept c =
+    let new = c.args.object in
+    let newest = subst (λ (maps : MapsState). IsNewest maps.objects new.number) (sym c.self.view_is) c.requires.newest in
+    rw c.add.ensures.objects (
+    kept_added c.self.inside.settled.rows c.self.inside.objects c.self.inside.reverse.objects new.number new.payload new.front
+    c.self.invariant.0 c.self.invariant.1 newest
+    )
+
+pub invariant_of-self : goal.invariant_of-self
+invariant_of-self c =
+    let new = c.args.object in
+    let rows = c.self.inside.settled.rows in
+    let objects = c.self.inside.reverse.objects in
+    let newest = subst (λ (maps : MapsState). IsNewest maps.objects new.number) (sym c.self.view_is) c.requires.newest in
+    let above = above_ranges new.number objects c.self.inside.objects.rows c.self.invariant.1.known newest.above_rows in
+    let reverse : IsReverse rows c.add.new.objects c.add.new.reverse.objects =
+    rw (c.add.ensures.objects, c.add.ensures.reverse) (
+    reverse_added rows c.self.inside.objects objects new.number new.payload new.front c.self.invariant.0 c.self.invariant.1
+    newest c.args.ranges.items
+    ) in
+    let ranges : ranges_of new.number c.add.new.reverse.objects ≡ c.args.ranges.items =
+    rw c.add.ensures.reverse (last_ranges new.number c.args.ranges.items objects above) in
+    let settled = c.settle_rows_counted.ensures in
+    let same = same_numbers c.add.new.objects c.settle_rows_counted.new.objects settled.same in (
+      settled.kept,
+      reverse_settled rows c.settle_rows_counted.new.settled.rows c.add.new.objects c.settle_rows_counted.new.objects
+          c.add.new.reverse.objects new.number c.args.ranges.items reverse same ranges c.args.rows.now c.requires.covered
+          settled.places,
+      omega (arith, settled.object_spare, c.add.ensures.room),
+    )

@@ -1,0 +1,6 @@
+mod SourceLemmas
+mod AskLemmas
+mod RunLemmas
+mod FillLemmas
+mod FrontLemmas
+mod PlanLemmas
