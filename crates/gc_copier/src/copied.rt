@@ -1,8 +1,9 @@
-ghost use Rattle.std.specs.Prelude.{◌≡◌};
+ghost use Rattle.std.specs.Prelude.{◌≡◌, ◌↔◌, IsTrue};
 ghost use Rattle.gc_copier.specs.Plan.{all_seen, sectors_of};
 ghost use Rattle.gc_copier.specs.Copying.{IsCopied};
 
-use crate::source::PlanSource;
+use crate::plan::GcPlan;
+use crate::source::{PlanSource, are_same};
 use lsvd_base::SECTOR_BYTES;
 use lsvd_objstore::Receipt;
 use object_format::CopyRow;
@@ -35,6 +36,13 @@ impl<R: Receipt> Model for Copied<R> {
 }
 
 impl<R: Receipt> Copied<R> {
+    /// Whether it was copied by this plan: it has the plan's rows, and its sources are the plan's.
+    pub fn is_of(&self, plan: &GcPlan<R>) -> bool
+        ensures { IsTrue result ↔ ((self.now.rows ≡ plan.now.rows) × (self.now.sources ≡ plan.now.sources)) }
+    {
+        self.rows.as_slice() == plan.rows() && are_same(self.sources.as_slice(), plan.sources())
+    }
+
     /// The rows of the copy object to come.
     pub fn rows(&self) -> &[CopyRow]
         ensures rows { result.now ≡ self.now.rows }

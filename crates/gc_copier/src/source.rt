@@ -1,4 +1,4 @@
-ghost use Rattle.std.specs.Prelude.{◌≡◌, map, IfOk};
+ghost use Rattle.std.specs.Prelude.{◌≡◌, ◌↔◌, map, IfOk, IsTrue};
 ghost use Rattle.std.specs.List.{Contains};
 ghost use Rattle.std.specs.List.Sorted.{IsStrictlyIncreasing};
 ghost use Rattle.gc_copier.specs.Plan.{seen, all_seen};
@@ -29,6 +29,15 @@ impl<R: Receipt> PlanSource<R> {
             receipt,
         })
     }
+
+    // Whether it is the same source: its receipt is for the same object.
+    fn is_same(&self, other: &PlanSource<R>) -> bool
+        ensures { IsTrue result ↔ (seen R.state self.now ≡ seen R.state other.now) }
+    {
+        self.number == other.number
+            && self.front == other.front
+            && self.receipt.same(&other.receipt)
+    }
 }
 
 /// The same sources again, with copies of their receipts. The one error is that memory ran out.
@@ -43,6 +52,21 @@ pub(crate) fn copy_sources<R: Receipt>(
         copies.push(source.copy(alloc)?)?;
     }
     Ok(copies)
+}
+
+/// Whether sources are the same, one by one.
+pub(crate) fn are_same<R: Receipt>(sources: &[PlanSource<R>], others: &[PlanSource<R>]) -> bool
+    ensures { IsTrue result ↔ (all_seen R.state sources.now ≡ all_seen R.state others.now) }
+{
+    if sources.len() != others.len() {
+        return false;
+    }
+    for index in 0..sources.len() {
+        if !sources[index].is_same(&others[index]) {
+            return false;
+        }
+    }
+    true
 }
 
 /// The source of a number, among ascending ones that it is one of (conditions).

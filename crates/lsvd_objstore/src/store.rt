@@ -22,6 +22,9 @@ pub trait Receipt: Drop {
     /// The name, the length, and the bytes where it tells them.
     ghost state: { Self → ReceiptState };
 
+    /// Whether receipts of this kind tell the bytes.
+    ghost tells: { Bool };
+
     /// The name of the object.
     fn name(&self) -> ObjName
         ensures { result ≡ (state self.now).name };
@@ -43,9 +46,7 @@ pub trait Receipt: Drop {
     ghost told_whole: { (receipt : Self)
         → IfSome (state receipt).told (λ told. (state receipt).size ≡ length told) };
 
-    /// Whether receipts of this kind tell the bytes: all of them do, or none does.
-    ghost tells: { Bool };
-
+    /// All receipts of this kind tell the bytes, or none does.
     ghost told_alike: { (receipt : Self) → is_some (state receipt).told ≡ tells };
 }
 

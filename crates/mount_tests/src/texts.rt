@@ -11,7 +11,7 @@ use uuid::Uuid;
 use vol_mount::MountError;
 use vol_recover::CreateError;
 
-const REFUSALS: [Refusal; 14] = [
+const REFUSALS: [Refusal; 13] = [
     Refusal::NoVolume,
     Refusal::BadSuper {
         reason: BadSuper::BadEpoch { number: 4 },
@@ -28,7 +28,6 @@ const REFUSALS: [Refusal; 14] = [
         number: 3,
         reason: BadObject::Seqs,
     },
-    Refusal::NotData { number: 4 },
     Refusal::MissingObject { number: 2 },
     Refusal::NoSlot { log: 9 },
     Refusal::StaleCache { cache: 1, store: 3 },
@@ -71,7 +70,6 @@ const RECOVERIES: &[RecoverError] = &[
         number: 3,
         reason: BadObject::Seqs,
     },
-    RecoverError::NotData { number: 4 },
     RecoverError::MissingObject { number: 2 },
     RecoverError::StoreFault,
     RecoverError::OutOfMemory,

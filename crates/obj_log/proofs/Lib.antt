@@ -1,3 +1,4 @@
 pub mod FitLemmas
 pub mod StreamLemmas
 pub mod ImageLemmas
+pub mod CopyLemmas

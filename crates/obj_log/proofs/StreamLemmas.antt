@@ -11,6 +11,7 @@ use Rattle.object_format.specs.declared.expected.Expected.{Expected}
 use Rattle.object_format.specs.declared.rows.Rows.TheVariants.{Data}
 use Rattle.object_format.specs.Writing.{object_header_of}
 use Rattle.object_stream.specs.declared.object.Content.TheVariants as content
+use Rattle.object_stream.specs.declared.object.StreamObject.{StreamObject}
 use Rattle.object_stream.specs.Changes.{change_at}
 use Rattle.object_stream.specs.Replay.{HasParts, expected_at}
 use Rattle.object_stream.specs.Stream.{Stream, end_after, end_at, last_number, unsealed, IsStream}
@@ -23,11 +24,13 @@ use Rattle.volume_maps.specs.Laws.{place_owner}
 use Rattle.batcher.specs.State.{BatchState}
 use Rattle.object_uploads.specs.State.{UploadsState}
 use Rattle.object_uploads.specs.Queue.{IsEntered}
-use Rattle.object_uploads.specs.Changes.{IsNotSealed}
+use Rattle.object_uploads.specs.declared.rows.SealedRows.TheVariants as sealed_rows
+use Rattle.object_uploads.specs.Changes.{IsSealedNext, IsNotSealed}
 use Rattle.object_uploads.specs.Order.{IsUploads}
 use Rattle.object_uploads.specs.Checkpoint.{expected_next}
-use Rattle.object_uploads.specs.Stream.{HoldsEntries, IsPlacedIn, AreOfStream}
-use Rattle.object_uploads.specs.Laws.{with_entry, with_data_object, with_checkpoint}
+use Rattle.object_uploads.specs.Stream.{HoldsEntries, HoldsCopy, IsPlacedIn, AreOfStream}
+use Rattle.object_uploads.specs.Laws.{with_entry, with_data_object}
+use Rattle.object_uploads.proofs.PlacedLemmas as keep_objects
 use Rattle.object_uploads.proofs.GrowLemmas as grow
 use Rattle.object_uploads.proofs.CheckpointStream as checkpoint
 use Rattle.object_uploads.proofs.KeepLemmas as keep
@@ -36,7 +39,7 @@ use Rattle.obj_log.specs.Changes.{expected_of_volume, next_of, HasSealedObject}
 use Rattle.obj_log.specs.Stream.{IsOfStream}
 use Rattle.obj_log.specs.Laws.{NewListBeginsStream, RoomKeepsStreamOfList, AddingKeepsStreamOfList, SealingKeepsStreamOfList}
 use Rattle.obj_log.specs.Laws.{SealingCheckpointKeepsStreamOfList, RemovalsKeepStreamOfList, JobsKeepStreamOfList}
-use Rattle.obj_log.specs.Laws.{DoneKeepsStreamOfList}
+use Rattle.obj_log.specs.Laws.{SealingCopyKeepsStreamOfList, DoneKeepsStreamOfList}
 
 pub new_list_begins_stream : NewListBeginsStream
 new_list_begins_stream data_at log number end opening first entries sectors window frontier end_is sealed logged uploads owned =
@@ -266,23 +269,48 @@ objects_expect log number before sectors number_is end_is =
     ap (λ n. expected_with uuid n log.uploads.sectors own) number_is
     ∙ (ap (λ s. expected_with uuid number s own) sectors ∙ ap (expected_with uuid number log.batch.geometry.sectors) end_is)
 
-pub sealing_checkpoint_keeps_stream : SealingCheckpointKeepsStreamOfList
-sealing_checkpoint_keeps_stream data_at stream old new uploads is has same =
+-- what is sealed with the end before it leaves the batch as it is
+more_of_same_end : (data_at : ℕ → ℕ) (stream : Stream) (old new : ObjLogState) (object : StreamObject)
+    → IsOfStream data_at stream old → object.end ≡ end_at stream (last_number stream)
+    → new.uploads.uuid ≡ old.uploads.uuid → new.uploads.sectors ≡ old.uploads.sectors → new.batch ≡ old.batch
+    → AreOfStream (expected_of_volume old) data_at (keep_objects.with_objects (object ∷ []) stream) new.uploads
+    → IsOfStream data_at (keep_objects.with_objects (object ∷ []) stream) new
+more_of_same_end data_at stream old new object is end uuid sectors same are =
     let geometry = ap (λ (b : BatchState). b.geometry) same in
-    let end = end_at stream (last_number stream) in
-    let end_is = checkpoint.last_ends (expected_of_volume old) data_at stream old.uploads uploads is.objects in
-    let expected = objects_expect old (last_number stream + 1) end is.sectors (ap (λ n. n + 1) (sym is.objects.last))
-    (ap (λ e. Some e) end_is) in
-    let last = grow.end_of_object stream (record { content = content.Checkpoint; end = end }) in
+    let last = grow.end_of_object stream object ∙ end in
     record {
       objects =
-          subst (λ v. AreOfStream v data_at (with_checkpoint stream) new.uploads)
-          (same_volume old new has.sealed.uuid geometry)
-          (checkpoint.sealing_checkpoint_keeps_stream (expected_of_volume old) data_at stream old.uploads new.uploads uploads
-          is.objects expected has);
-      sectors = same_sectors old new has.sealed.sectors geometry is.sectors;
+          subst (λ v. AreOfStream v data_at (keep_objects.with_objects (object ∷ []) stream) new.uploads)
+          (same_volume old new uuid geometry) are;
+      sectors = same_sectors old new sectors geometry is.sectors;
       first = ap (λ (b : BatchState). b.first) same ∙ (is.first ∙ sym last);
       entries =
           ap (λ (b : BatchState). b.entries) same
           ∙ (is.entries ∙ ap (λ e. drop (e - stream.end) stream.entries) (sym last));
     }
+
+pub sealing_copy_keeps_stream : SealingCopyKeepsStreamOfList
+sealing_copy_keeps_stream data_at stream old new pairs bytes rows uploads is holds sealed same =
+    let volume = expected_of_volume old in
+    let end = end_at stream (last_number stream) in
+    let end_is = checkpoint.last_ends volume data_at stream old.uploads uploads is.objects in
+    let expected = expected_at volume (last_number stream + 1) end in
+    let held : HoldsCopy expected pairs end bytes rows.items =
+    subst (λ e. HoldsCopy expected pairs e bytes rows.items) is.first
+    (subst (λ e. HoldsCopy e pairs old.batch.first bytes rows.items) (next_expected data_at stream old is) holds) in
+    let now : IsSealedNext bytes (sealed_rows.Copy rows) end old.uploads new.uploads =
+    subst (λ e. IsSealedNext bytes (sealed_rows.Copy rows) e old.uploads new.uploads) end_is sealed in
+    more_of_same_end data_at stream old new (record { content = content.Copy pairs; end = end }) is refl sealed.uuid
+    sealed.sectors same
+    (grow.sealing_copy_keeps_stream volume data_at stream old.uploads new.uploads pairs bytes rows uploads is.objects held now)
+
+pub sealing_checkpoint_keeps_stream : SealingCheckpointKeepsStreamOfList
+sealing_checkpoint_keeps_stream data_at stream old new uploads is has same =
+    let end = end_at stream (last_number stream) in
+    let end_is = checkpoint.last_ends (expected_of_volume old) data_at stream old.uploads uploads is.objects in
+    let expected = objects_expect old (last_number stream + 1) end is.sectors (ap (λ n. n + 1) (sym is.objects.last))
+    (ap (λ e. Some e) end_is) in
+    more_of_same_end data_at stream old new (record { content = content.Checkpoint; end = end }) is refl has.sealed.uuid
+    has.sealed.sectors same
+    (checkpoint.sealing_checkpoint_keeps_stream (expected_of_volume old) data_at stream old.uploads new.uploads uploads is.objects
+    expected has)

@@ -3,16 +3,22 @@ use Rattle.std.specs.Prelude.{◌≡◌, ℕ, ◌+◌, ◌≤◌, None, List, []
 use Rattle.std.specs.Global.{Vec}
 use Rattle.lsvd_base.specs.declared.entry.Entry.{Entry}
 use Rattle.lsvd_objstore.specs.Store.{ReceiptState}
+use Rattle.gc_copier.specs.Copying.{CopiedState}
+use Rattle.object_format.specs.declared.copy_row.CopyRow.{CopyRow}
 use Rattle.object_format.specs.declared.data_row.DataRow.{DataRow}
 use Rattle.object_format.specs.declared.expected.Expected.{Expected}
-use Rattle.object_format.specs.declared.rows.Rows.TheVariants.{Data}
+use Rattle.object_format.specs.declared.rows.Rows.TheVariants.{Data, Copy}
 use Rattle.object_format.specs.Writing.{object_header_of}
 use Rattle.object_stream.specs.Changes.{change_at, change_in}
-use Rattle.object_stream.specs.Replay.{HasParts, expected_at}
+use Rattle.object_stream.specs.declared.object.CopiedSector.{CopiedSector}
+use Rattle.object_stream.specs.Replay.{HasParts, expected_at, source_at}
+use Rattle.object_stream.specs.Stream.{source_in}
 use Rattle.batcher.specs.Batch.{IsSealedCount}
+use Rattle.object_uploads.specs.declared.rows.SealedRows.{SealedRows}
 use Rattle.object_uploads.specs.declared.rows.SealedRows.TheVariants as sealed_rows
-use Rattle.object_uploads.specs.Queue.{IsEntered, HasRoomForEntry}
+use Rattle.object_uploads.specs.Queue.{IsEntered, HasRoomForEntry, end_of_last}
 use Rattle.object_uploads.specs.Changes as uploads
+use Rattle.object_uploads.specs.Stream.{HoldsCopy}
 use Rattle.obj_log.specs.State.{ObjLogState}
 
 -- there is memory for an entry more
@@ -69,11 +75,25 @@ pub record HasSealedObject (old new : ObjLogState) : Type 0 where
   pub first : new.batch.first ≡ old.batch.first + count
   pub entries : new.batch.entries ≡ drop count old.batch.entries
 
+-- What was copied was sealed into the next object, with the end before it: it has each sector from just the source that its rows
+-- name.
+pub record HasSealedCopy (copied : CopiedState) (old new : ObjLogState) : Type 0 where
+  pub bytes : List ℕ
+  pub rows : Vec CopyRow
+  pub rows_are : rows.items ≡ copied.rows
+  pub parts : HasParts (next_of old) bytes (object_header_of (next_of old) old.batch.first old.batch.first (Copy rows))
+      (Copy rows) copied.payload
+  pub holds : (pairs : List CopiedSector) → ((k : ℕ) → source_at copied.rows k ≡ source_in pairs k)
+      → HoldsCopy (next_of old) pairs old.batch.first bytes rows.items
+  pub uploads : uploads.IsSealedNext bytes (sealed_rows.Copy rows) (end_of_last old.uploads.queue.end old.uploads.queue.sealed)
+      old.uploads new.uploads
+  pub batch : new.batch ≡ old.batch
+
 -- ---- adopting
 
 -- the object of the next number, with these rows and this end, was counted as acknowledged, and the batch, without entries, goes
 -- on there
-pub record HasAdoptedObject (rows : List DataRow) (end : ℕ) (receipt : ReceiptState) (old new : ObjLogState) : Type 0 where
+pub record HasAdoptedObject (rows : SealedRows) (end : ℕ) (receipt : ReceiptState) (old new : ObjLogState) : Type 0 where
   pub geometry : new.batch.geometry ≡ old.batch.geometry
   pub first : new.batch.first ≡ end
   pub entries : new.batch.entries ≡ []

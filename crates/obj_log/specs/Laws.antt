@@ -1,17 +1,22 @@
 -- Contract: what the calls keep of a stream.
 use Rattle.std.specs.Prelude.{◌≡◌, ℕ, ◌+◌, ◌<◌, Bool, List, [], length}
+use Rattle.std.specs.Global.{Vec}
 use Rattle.lsvd_base.specs.declared.entry.Entry.{Entry}
 use Rattle.lsvd_objstore.specs.Store.{ReceiptState}
+use Rattle.object_format.specs.declared.copy_row.CopyRow.{CopyRow}
 use Rattle.object_format.specs.declared.data_row.DataRow.{DataRow}
+use Rattle.object_stream.specs.declared.object.CopiedSector.{CopiedSector}
 use Rattle.object_stream.specs.Stream.{Stream, Owners}
 use Rattle.volume_maps.specs.Maps.{settled_at}
 use Rattle.volume_maps.specs.Laws.{place_owner}
 use Rattle.object_uploads.specs.Order.{IsUploads}
-use Rattle.object_uploads.specs.Changes.{with_job, IsPutDone}
+use Rattle.object_uploads.specs.declared.rows.SealedRows.TheVariants as sealed_rows
+use Rattle.object_uploads.specs.Queue.{end_of_last}
+use Rattle.object_uploads.specs.Changes.{IsSealedNext, with_job, IsPutDone}
 use Rattle.object_uploads.specs.Checkpoint.{HasSealedCheckpoint}
 use Rattle.object_uploads.specs.Removal.{IsSameButObjects}
-use Rattle.object_uploads.specs.Stream.{HoldsEntries}
-use Rattle.object_uploads.specs.Laws.{with_entry, with_data_object, with_checkpoint, with_adopted}
+use Rattle.object_uploads.specs.Stream.{HoldsEntries, HoldsCopy}
+use Rattle.object_uploads.specs.Laws.{with_entry, with_data_object, with_copy, with_checkpoint, with_adopted}
 use Rattle.obj_log.specs.State.{ObjLogState}
 use Rattle.obj_log.specs.Changes.{next_of, IsSame, IsAdded, HasSealedObject, HasAdoptedObject}
 use Rattle.obj_log.specs.Stream.{IsOfStream}
@@ -48,6 +53,16 @@ SealingKeepsStreamOfList =
     → IsUploads old.uploads → IsOfStream data_at stream old
     → HasSealedObject old new → IsOfStream data_at (with_data_object new.batch.first stream) new
 
+-- of the stream with a copy of these sectors more, once it was sealed
+abbrev pub SealingCopyKeepsStreamOfList : Type 0
+SealingCopyKeepsStreamOfList =
+    (data_at : ℕ → ℕ) (stream : Stream) (old new : ObjLogState) (pairs : List CopiedSector) (bytes : List ℕ) (rows : Vec CopyRow)
+    → IsUploads old.uploads → IsOfStream data_at stream old
+    → HoldsCopy (next_of old) pairs old.batch.first bytes rows.items
+    → IsSealedNext bytes (sealed_rows.Copy rows) (end_of_last old.uploads.queue.end old.uploads.queue.sealed) old.uploads
+    new.uploads
+    → new.batch ≡ old.batch → IsOfStream data_at (with_copy pairs stream) new
+
 -- of the stream with a checkpoint more, once one was sealed
 abbrev pub SealingCheckpointKeepsStreamOfList : Type 0
 SealingCheckpointKeepsStreamOfList =
@@ -78,11 +93,22 @@ DoneKeepsStreamOfList =
 -- object more, once that was adopted.
 abbrev pub AdoptingKeepsStreamOfList : Type 0
 AdoptingKeepsStreamOfList =
-    (data_at : ℕ → ℕ) (stream : Stream) (old new : ObjLogState) (entries : List Entry) (bytes : List ℕ) (rows : List DataRow)
+    (data_at : ℕ → ℕ) (stream : Stream) (old new : ObjLogState) (entries : List Entry) (bytes : List ℕ) (rows : Vec DataRow)
     (end : ℕ) (receipt : ReceiptState)
     → IsUploads old.uploads → IsOfStream data_at stream old → old.uploads.queue.sealed ≡ []
     → old.batch.entries ≡ []
     → end ≡ old.batch.first + length entries → 0 < length entries
-    → HoldsEntries (next_of old) entries end bytes rows
-    → HasAdoptedObject rows end receipt old new
+    → HoldsEntries (next_of old) entries end bytes rows.items
+    → HasAdoptedObject (sealed_rows.Data rows) end receipt old new
     → IsOfStream data_at (with_adopted entries end stream) new
+
+-- with a copy more, once that was
+abbrev pub AdoptingCopyKeepsStreamOfList : Type 0
+AdoptingCopyKeepsStreamOfList =
+    (data_at : ℕ → ℕ) (stream : Stream) (old new : ObjLogState) (pairs : List CopiedSector) (bytes : List ℕ) (rows : Vec CopyRow)
+    (receipt : ReceiptState)
+    → IsUploads old.uploads → IsOfStream data_at stream old → old.uploads.queue.sealed ≡ []
+    → old.batch.entries ≡ []
+    → HoldsCopy (next_of old) pairs old.batch.first bytes rows.items
+    → HasAdoptedObject (sealed_rows.Copy rows) old.batch.first receipt old new
+    → IsOfStream data_at (with_copy pairs stream) new

@@ -2,10 +2,12 @@
 //! store.
 //!
 //! Its contract: the entries that are in no object are those of the batch, a seal makes the next object of
-//! the first of them, and each sector is found in the log or in an object. It knows no device and no store.
-//! It stands on `batcher` for the batch and on `object_uploads` for the objects.
+//! the first of them, what a collection copied becomes one too, and each sector is found in the log or in an
+//! object. It knows no device and no store. It stands on `batcher` for the batch, on `object_uploads` for the
+//! objects, on `gc_copier` for what was copied, and on `object_format` for how a copy is written.
 #![tactic(auto)]
 
+mod copy;
 mod error;
 mod laws;
 mod obj_log;

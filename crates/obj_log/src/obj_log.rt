@@ -1,24 +1,28 @@
 ghost use Rattle.std.specs.Prelude.{◌≡◌, ◌+◌, ◌-◌, ◌<◌, ◌≤◌, ◌^◌, ◌↔◌, [], length, None, Err};
-ghost use Rattle.std.specs.Prelude.{IsTrue, IsOk, IfOk, OnOk, OnErr};
+ghost use Rattle.std.specs.Prelude.{IsTrue, IsOk, IfOk, OnOk, OnErr, false};
 ghost use Rattle.std.specs.Borrow.{sem};
 ghost use Rattle.std.specs.List.{sum_by};
 ghost use Rattle.lsvd_base.specs.Limits.{is_within_limits};
 ghost use Rattle.lsvd_base.specs.Range.{is_in_range};
 ghost use Rattle.lsvd_base.specs.Laws.{sector_count};
 ghost use Rattle.batcher.specs.Batch.{data_sectors};
+ghost use Rattle.gc_copier.specs.Plan.{sectors_of};
 ghost use Rattle.lsvd_names.specs.Names.{numbered_name};
-ghost use Rattle.object_uploads.specs.Queue.{FitObject};
+ghost use Rattle.object_format.specs.Rows.{copy_rows_may_stand};
+ghost use Rattle.object_uploads.specs.Queue.{FitSealed, is_checkpoint};
 ghost use Rattle.object_uploads.specs.Order.{IsUploads};
 ghost use Rattle.obj_log.specs.declared.error.SealError.TheVariants as errors;
 ghost use Rattle.obj_log.specs.Changes.{HasRoomToAdd, IsSame, IsAdded, HasSealedObject, HasAdoptedObject};
-ghost use Rattle.obj_log.specs.Changes.{next_of};
+ghost use Rattle.obj_log.specs.Changes.{HasSealedCopy, next_of};
 
+use crate::copy::{into_copies, write_object};
 use crate::error::SealError;
 use batcher::Batch;
+use gc_copier::Copied;
 use lsvd_base::{Entry, Geometry};
 use lsvd_objstore::Receipt;
-use object_format::{DataRow, Expected};
-use object_uploads::Uploads;
+use object_format::{Expected, Rows};
+use object_uploads::{SealedRows, Uploads};
 use std::alloc::{AllocError, Global};
 use std::marker::Model;
 use uuid::Uuid;
@@ -135,16 +139,40 @@ impl<R: Receipt> ObjLog<R> {
         Ok(number)
     }
 
+    /// Seals what was copied by a plan into the next object, a copy, and answers its number. Fewer than 16
+    /// objects are open, the numbers go on below 2^64 - 1, the objects are of a volume as large as the
+    /// batch's, and the rows may stand in the next object, which has 65,536 at most (conditions). The one
+    /// error is out of memory; then nothing changes but room.
+    pub fn seal_copy(&mut self, alloc: Global, copied: &Copied<R>) -> Result<u64, AllocError>
+        requires places { length self.old.uploads.window.objects < 16 }
+        requires numbers { self.old.uploads.window.last + 1 < 2 ^ 64 - 1 }
+        requires sectors { self.old.uploads.sectors ≡ self.old.batch.geometry.sectors }
+        requires count { length copied.now.rows ≤ 65536 }
+        requires rows { IsTrue (copy_rows_may_stand self.old.batch.geometry.sectors
+            (sectors_of copied.now.rows) (self.old.uploads.window.last + 1) None 0 copied.now.rows) }
+        ensures number { IfOk result (λ number. number ≡ self.old.uploads.window.last + 1) }
+        ensures sealed { OnOk result (HasSealedCopy copied.now self.old self.new) }
+        ensures same { OnErr result (IsSame self.old self.new) }
+    {
+        let end = self.batch.first_seq();
+        let rows = Rows::Copy(Vec::from_slice(alloc, copied.rows())?);
+        let object = write_object(alloc, self.next(), end, &rows, copied.payload())?;
+        let spare = object.share()?;
+        let ranges = self.uploads.copied_ranges(alloc, copied.rows())?;
+        self.uploads
+            .seal_copy(object, spare, into_copies(rows), ranges)
+    }
+
     /// Counts the next number's object, which is in the store, as acknowledged, and settles it: these are its
     /// rows, the count of entries up to its end, and the receipt that the store gave for it. The batch goes
     /// on at that end. No object is past the frontier, the batch has no entry, the numbers go on below 2^64 -
-    /// 1, the end is not before that of the frontier, the receipt has the object's name, and the rows are
-    /// 65,536 at most, and lie inside the volume, and their places inside the greatest payload (conditions).
-    /// The one error is out of memory; then nothing changes but room.
+    /// 1, the end is not before that of the frontier, the receipt has the object's name, and the rows are a
+    /// data object's or a copy's, and fit the volume (conditions). The one error is out of memory; then
+    /// nothing changes but room.
     pub fn adopt(
         &mut self,
         alloc: Global,
-        rows: &[DataRow],
+        rows: SealedRows,
         end: u64,
         receipt: R,
     ) -> Result<(), AllocError>
@@ -152,16 +180,17 @@ impl<R: Receipt> ObjLog<R> {
         requires empty { self.old.batch.entries ≡ [] }
         requires numbers { self.old.uploads.window.last + 1 < 2 ^ 64 - 1 }
         requires order { self.old.uploads.queue.end ≤ end }
-        requires fit { FitObject self.old.uploads.sectors rows.now }
+        requires no_checkpoint { is_checkpoint rows ≡ false }
+        requires fit { FitSealed self.old.uploads.sectors rows }
         requires named { (R.state receipt).name ≡ numbered_name self.old.uploads.uuid
             (self.old.uploads.window.last + 1) }
-        ensures adopted { OnOk result (HasAdoptedObject rows.now end (R.state receipt) self.old self.new) }
+        ensures adopted { OnOk result (HasAdoptedObject rows end (R.state receipt) self.old self.new) }
         ensures same { OnErr result (IsSame self.old self.new) }
         ensures order { IsUploads self.old.uploads }
     {
         // It is told that the uploads are in order, also where memory runs out.
         self.uploads.frontier();
-        let ranges = self.uploads.put_ranges(alloc, rows)?;
+        let ranges = self.uploads.ranges_of(alloc, &rows)?;
         self.uploads.adopt(rows, ranges, end, receipt)?;
         self.batch = Batch::new(alloc, self.batch.geometry(), end);
         Ok(())
@@ -174,7 +203,7 @@ impl<R: Receipt> ObjLog<R> {
         &self.uploads
     }
 
-    /// The same, for their jobs, removals, pins and checkpoints, which leave the batch as it is.
+    /// The same, for their jobs, removals, pins, copies and checkpoints, which leave the batch as it is.
     pub fn uploads_mut(&mut self) -> &mut Uploads<R>
         ensures* lends { sem 𝓛 (LendsUploads R.row R.Receipt self.entry result) }
         ensures is { result.now ≡ self.old.uploads }

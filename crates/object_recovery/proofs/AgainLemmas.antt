@@ -1,6 +1,6 @@
 -- A store keeps its stream while objects past it are removed.
-use Rattle.std.proofs.Common.{◌≡◌, ℕ, suc, ◌+◌, ◌-◌, ◌<◌, ◌≤◌, inl, inr, Option, Some, None, List, []}
-use Rattle.std.proofs.Common.{◌∷◌, length, get_or, refl, sym, ◌∙◌, ap, subst, arith}
+use Rattle.std.proofs.Common.{◌≡◌, ℕ, ◌+◌, ◌-◌, ◌≤◌, inl, inr, Option, Some, None, List, []}
+use Rattle.std.proofs.Common.{◌∷◌, length, refl, sym, ◌∙◌, ap, subst, arith}
 use Rattle.std.specs.Prelude.{is_some, option_map}
 use Rattle.std.proofs.lemmas.List.{length-take}
 use Rattle.lsvd_base.specs.declared.entry.Entry.{Entry}
@@ -27,19 +27,6 @@ use Rattle.object_recovery.specs.Removal.{Removes}
 use Rattle.object_recovery.specs.Recovery.{HasDataUpTo, IsPastOf}
 use Rattle.object_recovery.specs.Laws.{RemovalKeepsStream}
 use Rattle.object_recovery.proofs.RowLemmas.{place_stands}
-
--- what a data object has does not depend on the other objects
-content_kept : (old new : Objects) (uuid_at : ℕ → Option (List ℕ)) (kind : Content) (entries : List Entry) (rows : Rows)
-    (payload : List ℕ)
-    → kind ≡ content.Data
-    → HasContent old uuid_at kind entries rows payload → HasContent new uuid_at kind entries rows payload
-content_kept old new uuid_at kind entries (rows_of.Data list) payload is has =
-    subst (λ c. HasContent new uuid_at c entries (rows_of.Data list) payload) (sym is)
-    (subst (λ c. HasContent old uuid_at c entries (rows_of.Data list) payload) is has)
-content_kept old new uuid_at kind entries (rows_of.Copy list) payload is has =
-    absurd (subst (λ c. HasContent old uuid_at c entries (rows_of.Copy list) payload) is has)
-content_kept old new uuid_at kind entries rows_of.Checkpoint payload is has =
-    absurd (subst (λ c. HasContent old uuid_at c entries rows_of.Checkpoint payload) is has)
 
 module _ (volume : Expected) (uuid_at : ℕ → Option (List ℕ)) (old new : Objects) (number : ℕ) (alone : volume.ancestors ≡ 0)
     (removes : Removes (IsPastOf volume.uuid number) old new) where
@@ -128,11 +115,48 @@ module _ (volume : Expected) (uuid_at : ℕ → Option (List ℕ)) (old new : Ob
             (subst (λ o. StandsForSector old uuid_at o k sector) says (opens.value k sector at)));
       }
 
-  stored_kept : (at end : ℕ) (entries : List Entry) (list : List StreamObject) → at + length list ≤ number
-      → ((k : ℕ) (d : StreamObject) → k < length list → (get_or list k d).content ≡ content.Data)
-      → AreStored old uuid_at volume at end entries list → AreStored new uuid_at volume at end entries list
-  stored_kept at end entries [] to hold stored = tt
-  stored_kept at end entries (object ∷ more) to hold stored =
+  -- a sector that an object has it had before
+  sector_was : (owner : Owner) (k : ℕ) (sector : List ℕ) → HasSector new uuid_at owner k sector
+      → HasSector old uuid_at owner k sector
+  sector_was owner k sector has = record {
+    expected = has.expected;
+    wide = has.wide;
+    level = has.level;
+    number = has.number;
+    bytes = has.bytes;
+    present =
+        elim (removes.removed (object_name has.expected owner.number)) [
+          | inl same ↦ sym same ∙ has.present
+          | inr gone ↦ absurd (let present = has.present in cc)
+        ];
+    header = has.header;
+    rows = has.rows;
+    payload = has.payload;
+    parts = has.parts;
+    has = has.has;
+  }
+
+  -- so a copy still has what its sources have that are there
+  content_kept : (before : Owners) (kind : Content) (entries : List Entry) (rows : Rows) (payload : List ℕ)
+      → HasContent old uuid_at before kind entries rows payload → HasContent new uuid_at before kind entries rows payload
+  content_kept before content.Data entries (rows_of.Data list) payload has = has
+  content_kept before content.Data entries (rows_of.Copy list) payload has = absurd has
+  content_kept before content.Data entries rows_of.Checkpoint payload has = absurd has
+  content_kept before (content.Copy pairs) entries (rows_of.Data list) payload has = absurd has
+  content_kept before (content.Copy pairs) entries (rows_of.Copy list) payload has = (
+    has.0,
+    λ k source sector from still there. has.1 k source sector from still
+        (sector_was (record { level = 0; number = source }) k sector there),
+  )
+  content_kept before (content.Copy pairs) entries rows_of.Checkpoint payload has = absurd has
+  content_kept before content.Checkpoint entries (rows_of.Data list) payload has = absurd has
+  content_kept before content.Checkpoint entries (rows_of.Copy list) payload has = absurd has
+  content_kept before content.Checkpoint entries rows_of.Checkpoint payload has = tt
+
+  stored_kept : (at end : ℕ) (entries : List Entry) (before : Owners) (list : List StreamObject) → at + length list ≤ number
+      → AreStored old uuid_at volume at end entries before list → AreStored new uuid_at volume at end entries before list
+  stored_kept at end entries before [] to stored = tt
+  stored_kept at end entries before (object ∷ more) to stored =
       let is = stored.0 in (
         record {
           bytes = is.bytes;
@@ -142,10 +166,9 @@ module _ (volume : Expected) (uuid_at : ℕ → Option (List ℕ)) (old new : Ob
           present = kept_at (at + 1) (omega (arith, to)) ∙ is.present;
           parts = is.parts;
           ends = is.ends;
-          content = content_kept old new uuid_at object.content _ is.rows_of is.payload (hold 0 object (omega arith)) is.content;
+          content = content_kept before object.content _ is.rows_of is.payload is.content;
         },
-        stored_kept (at + 1) object.end _ more (omega (arith, to)) (λ k d inside. hold (suc k) d (omega (arith, inside)))
-            stored.1,
+        stored_kept (at + 1) object.end _ _ more (omega (arith, to)) stored.1,
       )
 
   stream_kept : (stream : Stream) (opening : Image) → HasDataUpTo volume uuid_at old stream opening number
@@ -188,15 +211,15 @@ module _ (volume : Expected) (uuid_at : ℕ → Option (List ℕ)) (old new : Ob
           base = stored.base;
           opens = opening_kept stream opening (omega (arith, low, stored.base)) stored.opens;
           last = stored.last;
-          stored = stored_kept stream.number stream.end stream.entries (objects_to stream number) size has.hold_data
-              stored.stored;
+          stored =
+              stored_kept stream.number stream.end stream.entries stream.opening (objects_to stream number) size stored.stored;
           past = λ other bytes past there.
               elim (removes.removed (object_name volume other)) [
                 | inl same ↦ stored.past other bytes past (sym same ∙ there)
                 | inr gone ↦ absurd cc
               ];
         };
-        hold_data = has.hold_data;
+        no_checkpoint = has.no_checkpoint;
         inside = has.inside;
       }
 

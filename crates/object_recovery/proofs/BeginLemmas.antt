@@ -31,7 +31,7 @@ use Rattle.object_recovery.specs.Earlier.{AreSameObjects, NamesNone}
 use Rattle.object_recovery.specs.Beginning.{HasValue, BeginsList, BeginsInStore, LacksReach, IsTakenUp, HasTakenUp, HasRows}
 use Rattle.object_recovery.specs.Recovery.{IsListUpTo}
 use Rattle.object_recovery.specs.Table.{HasTableFrom}
-use Rattle.object_recovery.proofs.BegunTable.{ListsTable, knows, named_there}
+use Rattle.object_recovery.proofs.BegunTable.{ListsTable, knows, named_there, payloads_there}
 use Rattle.object_recovery.proofs.EarlierLemmas.{all_earlier_same}
 use Rattle.object_recovery.proofs.BegunLemmas.{HasBegunWith, places_inside, owners_are}
 use Rattle.object_recovery.proofs.ValueLemmas.{has_image, absent_missing, lacking_missing}
@@ -153,6 +153,7 @@ module _ (uuid : List ℕ) (geometry : Geometry) (checkpoint : ReadCheckpoint) (
       record {
         value = has_value objects all;
         knows = knows uuid geometry number checkpoint.end earlier rows log objects begun lists list.frontier order
-            (owners_are uuid geometry number earlier rows queue stand reach begun) all of_store refl;
+            (owners_are uuid geometry number earlier rows queue stand reach begun) all of_store refl
+            (payloads_there uuid geometry number earlier rows queue stand reach begun objects all.stored tells);
         named = named_there uuid geometry number earlier rows queue stand reach begun objects all.stored tells;
       }

@@ -1,5 +1,5 @@
 -- The list that begins with a checkpoint: the objects that it has, and its places.
-use Rattle.std.proofs.Common.{◌≡◌, ℕ, ◌+◌, ◌*◌, ◌<◌, ◌≤◌, Option, Some, None, List, [], ◌∷◌, ◌++◌}
+use Rattle.std.proofs.Common.{◌≡◌, ℕ, ◌+◌, ◌*◌, ◌<◌, ◌≤◌, false, Option, Some, None, List, [], ◌∷◌, ◌++◌}
 use Rattle.std.proofs.Common.{map, refl, sym, ◌∙◌, ap, subst, arith}
 use Rattle.std.specs.Prelude.{option_map}
 use Rattle.std.specs.List.{All, Contains}
@@ -19,23 +19,58 @@ use Rattle.object_table.specs.Table.{row_of, numbers, new_row, passed, IsNewest}
 use Rattle.volume_maps.specs.declared.place.ObjectPlace.{ObjectPlace}
 use Rattle.volume_maps.specs.Places.{object_on}
 use Rattle.volume_maps.specs.Maps.{settled_at}
-use Rattle.volume_maps.specs.Live.{MayGain}
+use Rattle.volume_maps.specs.Live.{MayGain, but_live}
 use Rattle.volume_maps.specs.Laws.{place_owner}
 use Rattle.volume_maps.proofs.TableLemmas.{same_numbers}
 use Rattle.object_uploads.specs.Checkpoint.{mapped_place}
 use Rattle.object_uploads.specs.State.{NumberedReceipt, QueueState}
 use Rattle.object_uploads.specs.Queue.{receipt_in, stored_at}
 use Rattle.object_uploads.specs.Opening.{HasBegun}
+use Rattle.object_uploads.proofs.DeadRows.{row_seen, row_still}
 use Rattle.object_uploads.proofs.StoredLemmas.{front_in, fixed_passed, fixed_same}
 use Rattle.obj_log.specs.State.{ObjLogState}
 use Rattle.object_recovery.specs.Checkpoints.{expected_of}
 use Rattle.object_recovery.specs.Earlier.{EarlierObject, IsReached}
 use Rattle.object_recovery.specs.Beginning.{HasPartsAsked, HasTakenUp, MayMap, HasRows}
-use Rattle.object_recovery.specs.Places.{IsInsideObject, HasPlacesInside}
+use Rattle.object_uploads.specs.Collection.{IsInsideObject}
+use Rattle.object_recovery.specs.Places.{HasPlacesInside}
 use Rattle.object_recovery.proofs.EarlierLemmas.{Ascend}
 use Rattle.object_recovery.proofs.TakenLemmas.{taken_below, has_taken}
 use Rattle.object_recovery.proofs.RowLemmas.{place_stands}
 use Rattle.object_recovery.proofs.StoredObjects.{HasStored, stored_kept, stored_before, stored_is}
+
+-- ---- the payload of an object
+
+-- the table has an object with this payload
+pub record HasPayloadIn (number payload : ℕ) (rows : List ObjectRow) : Type 0 where
+  pub row : ObjectRow
+  pub there : row_of number rows ≡ Some row
+  pub payload_is : row.payload ≡ payload
+
+-- also where live sectors alone differ
+payload_same : (number payload : ℕ) (old new : List ObjectRow) → map but_live new ≡ map but_live old
+    → HasPayloadIn number payload old → HasPayloadIn number payload new
+payload_same number payload old new same has =
+    let there = row_seen but_live number old new has.row (λ r. refl) same has.there in
+    record { row = there.0; there = there.1; payload_is = ap (λ (r : ObjectRow). r.payload) there.2 ∙ has.payload_is }
+
+-- and where a checkpoint passed all, and others came
+abbrev unpassed : ObjectRow → ObjectRow
+unpassed row = record row { is_unmapped = false }
+
+unpassed_rows : (rows : List ObjectRow) → map unpassed (map passed rows) ≡ map unpassed rows
+unpassed_rows [] = refl
+unpassed_rows (row ∷ rows) = ap (λ more. unpassed row ∷ more) (unpassed_rows rows)
+
+payload_passed : (number payload : ℕ) (rows more : List ObjectRow) → HasPayloadIn number payload rows
+    → HasPayloadIn number payload (map passed rows ++ more)
+payload_passed number payload rows more has =
+    let there = row_seen unpassed number rows (map passed rows) has.row (λ r. refl) (unpassed_rows rows) has.there in
+    record {
+      row = there.0;
+      there = row_still number (map passed rows) more there.0 there.1;
+      payload_is = ap (λ (r : ObjectRow). r.payload) there.2 ∙ has.payload_is;
+    }
 
 -- ---- the objects of the list as it begins
 
@@ -46,6 +81,7 @@ pub record HasBegunWith (volume : Expected) (earlier : List EarlierObject) (rows
   pub stored : (e : EarlierObject) → Contains earlier e
       → (payload : ℕ) × (front : ℕ) × HasPartsAsked volume e payload front
       × HasStored e.number e.receipt front queue.receipts queue.maps.objects.rows
+      × HasPayloadIn e.number payload queue.maps.objects.rows
 
 module _ (uuid : List ℕ) (geometry : Geometry) (number end : ℕ) (earlier : List EarlierObject) (rows : List (Extent StoredPlace))
     (taken log : ObjLogState) (order : Ascend earlier) (is : HasTakenUp uuid geometry number end earlier taken)
@@ -57,6 +93,7 @@ module _ (uuid : List ℕ) (geometry : Geometry) (number end : ℕ) (earlier : L
   stored_taken : (e : EarlierObject) → Contains earlier e
       → (payload : ℕ) × (front : ℕ) × HasPartsAsked volume e payload front
       × HasStored e.number e.receipt front taken.uploads.queue.receipts taken.uploads.queue.maps.objects.rows
+      × HasPayloadIn e.number payload taken.uploads.queue.maps.objects.rows
   stored_taken e at =
       let t = has_taken volume earlier taken.uploads.queue.maps.objects.rows e order is.objects at in
       let front : front_in (row_of e.number taken.uploads.queue.maps.objects.rows) ≡ Some t.taken.1 =
@@ -68,6 +105,7 @@ module _ (uuid : List ℕ) (geometry : Geometry) (number end : ℕ) (earlier : L
           receipt_is = ap (λ l. receipt_in l e.number) is.receipts ∙ t.receipt;
           front_is = front;
         },
+        record { row = t.row; there = t.there; payload_is = ap (λ (r : ObjectRow). r.payload) t.taken.2 },
       )
 
   -- also after the rows were entered
@@ -82,6 +120,8 @@ module _ (uuid : List ℕ) (geometry : Geometry) (number end : ℕ) (earlier : L
           stored_kept e.number e.receipt s.1 taken.uploads.queue.receipts log.uploads.queue.receipts
               taken.uploads.queue.maps.objects.rows log.uploads.queue.maps.objects.rows has.receipts
               (fixed_same log.uploads.queue.maps.objects.rows taken.uploads.queue.maps.objects.rows has.objects.rows) s.3,
+          payload_same e.number s.0 taken.uploads.queue.maps.objects.rows log.uploads.queue.maps.objects.rows has.objects.rows
+              s.4,
         );
   }
 
@@ -106,13 +146,15 @@ module _ (uuid : List ℕ) (geometry : Geometry) (number end : ℕ) (earlier : L
           s.2,
           subst (λ r. HasStored e.number e.receipt s.1 r new.uploads.queue.maps.objects.rows) (sym begun.receipts)
               with_rows,
+          subst (HasPayloadIn e.number s.0) (sym begun.rows)
+              (payload_passed e.number s.0 old_rows (new_row log.uploads.queue.frontier 0 0 ∷ []) s.4),
         );
   }
 
 -- ---- places
 
 -- a place that is mapped is one of rows
-mapped_from : (place : Option StoredPlace) (mapped : ObjectPlace) → option_map mapped_place place ≡ Some mapped
+pub mapped_from : (place : Option StoredPlace) (mapped : ObjectPlace) → option_map mapped_place place ≡ Some mapped
     → (p : StoredPlace) × (place ≡ Some p) × (mapped_place p ≡ mapped)
 mapped_from None mapped is = absurd cc
 mapped_from (Some p) mapped is = (p, refl, cc)
@@ -141,6 +183,7 @@ module _ (uuid : List ℕ) (geometry : Geometry) (number : ℕ) (earlier : List 
     pub front : ℕ
     pub parts : HasPartsAsked volume_of object payload front
     pub stored : stored_at queue (mapped_place place) ≡ Some (record { receipt = object.receipt; front = front })
+    pub in_table : HasPayloadIn object.number payload queue.maps.objects.rows
     pub own : place.level ≡ 0
 
   pub has_at : (k : ℕ) (place : StoredPlace) → place_at stored_on rows k ≡ Some place → HasAt place
@@ -160,6 +203,7 @@ module _ (uuid : List ℕ) (geometry : Geometry) (number : ℕ) (earlier : List 
         stored =
             stored_is queue (mapped_place place) r.0.receipt s.1 own
             (subst (λ n. HasStored n r.0.receipt s.1 queue.receipts queue.maps.objects.rows) r.2 s.3);
+        in_table = s.4;
         own = own;
       }
 

@@ -44,12 +44,13 @@ use Rattle.obj_log.specs.State.{ObjLogState}
 use Rattle.object_recovery.specs.Beginning.{IsTakenUp, HasTakenUp, HasRows}
 use Rattle.object_recovery.specs.Checkpoints.{expected_of}
 use Rattle.object_recovery.specs.Earlier.{EarlierObject, HasEarlier, AreAllEarlier, IsStoredThere, IsReached}
-use Rattle.object_recovery.specs.Table.{HasTableFrom, KnowsObjects, AreNamedThere}
-use Rattle.object_recovery.proofs.BegunLemmas.{HasBegunWith, has_at}
+use Rattle.object_recovery.specs.Table.{HasTableFrom, HasPayloadThere, ArePayloadsThere, KnowsObjects, AreNamedThere}
+use Rattle.object_recovery.proofs.BegunLemmas.{HasPayloadIn, HasBegunWith, mapped_from, has_at}
 use Rattle.object_recovery.proofs.FindLemmas.{of_told}
 use Rattle.object_recovery.proofs.PlaceLemmas.{so_some}
 use Rattle.object_recovery.proofs.RecoverLemmas.{one_reading}
-use Rattle.object_recovery.proofs.TableLemmas.{same_presence, row_of_last, AreUnpinned, unpinned_same}
+use Rattle.object_recovery.proofs.TableLemmas.{same_presence, row_of_last, AreUnpinned, unpinned_same, AreNotCopied}
+use Rattle.object_recovery.proofs.TableLemmas.{not_copied_same}
 use Rattle.object_recovery.proofs.TakenLemmas.{taken_have}
 
 -- ---- which objects it has
@@ -64,15 +65,15 @@ pub record ListsTable (number : ℕ) (earlier : List EarlierObject) (queue : Que
   pub listed : All (λ (row : ObjectRow). IsListed earlier number row.number) queue.maps.objects.rows
   pub own : 0 < number → IsTrue (is_some (row_of number queue.maps.objects.rows))
 
--- objects that were just taken up are not pinned
-taken_unpinned : (volume : Expected) (earlier : List EarlierObject) (rows : List ObjectRow)
-    → AllZip (IsTakenUp volume) earlier rows → AreUnpinned rows
-taken_unpinned volume [] [] taken = All-nil (λ (row : ObjectRow). row.pins ≡ 0)
-taken_unpinned volume [] (row ∷ rows) taken = absurd taken
-taken_unpinned volume (first ∷ rest) [] taken = absurd taken
-taken_unpinned volume (first ∷ rest) (row ∷ rows) taken =
-    All-cons (λ (r : ObjectRow). r.pins ≡ 0) row rows (ap (λ (r : ObjectRow). r.pins) taken.0.2)
-    (taken_unpinned volume rest rows taken.1)
+-- objects that were just taken up are new to the table: not pinned, and no plan takes sectors from them
+taken_new : (volume : Expected) (Is : ObjectRow → Type 0) → ((number payload front : ℕ) → Is (new_row number payload front))
+    → (earlier : List EarlierObject) (rows : List ObjectRow) → AllZip (IsTakenUp volume) earlier rows → All Is rows
+taken_new volume Is new [] [] taken = All-nil Is
+taken_new volume Is new [] (row ∷ rows) taken = absurd taken
+taken_new volume Is new (first ∷ rest) [] taken = absurd taken
+taken_new volume Is new (first ∷ rest) (row ∷ rows) taken =
+    All-cons Is row rows (subst Is (sym taken.0.2) (new first.number taken.0.0 taken.0.1))
+    (taken_new volume Is new rest rows taken.1)
 
 module _ (uuid : List ℕ) (geometry : Geometry) (number end : ℕ) (earlier : List EarlierObject) (rows : List (Extent StoredPlace))
     (taken log : ObjLogState) (is : HasTakenUp uuid geometry number end earlier taken) (has : HasRows rows taken log) where
@@ -82,7 +83,14 @@ module _ (uuid : List ℕ) (geometry : Geometry) (number end : ℕ) (earlier : L
   unpinned : AreUnpinned table_rows
   unpinned =
       unpinned_same table_rows taken.uploads.queue.maps.objects.rows has.objects.rows
-      (taken_unpinned (expected_of uuid geometry) earlier taken.uploads.queue.maps.objects.rows is.objects)
+      (taken_new (expected_of uuid geometry) (λ (row : ObjectRow). row.pins ≡ 0) (λ n payload front. refl) earlier
+      taken.uploads.queue.maps.objects.rows is.objects)
+
+  not_copied : AreNotCopied table_rows
+  not_copied =
+      not_copied_same table_rows taken.uploads.queue.maps.objects.rows has.objects.rows
+      (taken_new (expected_of uuid geometry) (λ (row : ObjectRow). row.is_copied ≡ false) (λ n payload front. refl) earlier
+      taken.uploads.queue.maps.objects.rows is.objects)
 
   listed : All (λ (row : ObjectRow). IsListed earlier number row.number) table_rows
   listed =
@@ -99,6 +107,7 @@ module _ (uuid : List ℕ) (geometry : Geometry) (number end : ℕ) (earlier : L
       checkpoint_is = has.objects.checkpoint ∙ is.checkpoint ∙ sym zero_;
       removal = has.rest.removal ∙ is.removal;
       unpinned = unpinned;
+      not_copied = not_copied;
       exact = λ at i d inside below. absurd (omega (arith, below, zero_));
     };
     listed = listed;
@@ -135,6 +144,7 @@ module _ (uuid : List ℕ) (geometry : Geometry) (number end : ℕ) (earlier : L
         checkpoint_is = begun.checkpoint ∙ frontier;
         removal = begun.rest.removal ∙ has.rest.removal ∙ is.removal;
         unpinned = now_all (λ (row : ObjectRow). row.pins ≡ 0) unpinned refl;
+        not_copied = now_all (λ (row : ObjectRow). row.is_copied ≡ false) not_copied refl;
         exact = λ at.
             now_all (λ (row : ObjectRow). row.number < number → row.is_unmapped ≡ nat_eq row.live 0)
             (λ i d inside low. refl) (λ low. absurd (omega (arith, low)));
@@ -163,7 +173,8 @@ module _ (uuid : List ℕ) (geometry : Geometry) (number base_end : ℕ) (earlie
     (owners_are : (k : ℕ) → place_owner (settled_at log.uploads.queue.maps k) ≡ owned_by rows k)
     (all : AreAllEarlier uuid objects number earlier)
     (checkpoint : IsCheckpointOf (expected_of uuid geometry) objects number base_end (owned_by rows))
-    (its_rows : checkpoint.rows ≡ rows) where
+    (its_rows : checkpoint.rows ≡ rows)
+    (payloads : ArePayloadsThere (expected_of uuid geometry) objects log.uploads.queue) where
   abbrev volume : Expected
   volume = expected_of uuid geometry
 
@@ -238,6 +249,7 @@ module _ (uuid : List ℕ) (geometry : Geometry) (number base_end : ℕ) (earlie
     places = λ end owned other k place at low.
         (let one = one_reading volume objects number number base_end end (owned_by rows) owned refl checkpoint other in
         ap (λ list. option_map mapped_place (place_at stored_on list k)) (one.1 ∙ its_rows) ∙ sym (begun.settled k) ∙ at);
+    payloads = payloads;
   }
 
 -- ---- the objects of its places
@@ -248,22 +260,69 @@ module _ (uuid : List ℕ) (geometry : Geometry) (number : ℕ) (earlier : List 
     (begun : HasBegunWith (expected_of uuid geometry) earlier rows queue) (objects : Objects)
     (stored : All (IsStoredThere uuid objects) earlier)
     (tells : All (λ (e : EarlierObject). IsTold e.receipt.told) earlier) where
-  pub named_there : AreNamedThere (expected_of uuid geometry) objects rows
-  named_there k place at =
-      let volume = expected_of uuid geometry in
+  abbrev volume_of : Expected
+  volume_of = expected_of uuid geometry
+
+  -- the object of a place, with its payload
+  record HasOf (place : StoredPlace) (payload : ℕ) : Type 0 where
+    there : HasPayloadThere volume_of objects place.number payload
+    inside : place.place < payload
+    in_table : HasPayloadIn place.number payload queue.maps.objects.rows
+
+  payload_of_place : (k : ℕ) (place : StoredPlace) → place_at stored_on rows k ≡ Some place → (payload : ℕ) × HasOf place payload
+  payload_of_place k place at =
       let has = has_at uuid geometry number earlier rows queue stand reached begun k place at in
       let e = has.object in
       let there = All-contains (IsStoredThere uuid objects) earlier e stored has.at in
       let told = All-contains (λ (o : EarlierObject). IsTold o.receipt.told) earlier e tells has.at in
       let header = has.parts.header (λ none. omega (arith, none, has.before)) in
+      let own : HasPayloadThere volume_of objects e.number has.payload =
       record {
         bytes = there.0;
-        present = ap (λ n. found objects (numbered_name uuid n)) (sym has.named) ∙ there.1;
+        present = there.1;
         header = header.header;
         is_header =
-            subst (λ n. IsObjectHeader there.0 (length there.0) (expected_alone volume n) header.header) has.named
-            (of_told (λ bytes size. IsObjectHeader bytes size (expected_alone volume e.number) header.header)
-            (numbered_name uuid e.number) there.0 e.receipt there.2 told header.told);
+            of_told (λ bytes size. IsObjectHeader bytes size (expected_alone volume_of e.number) header.header)
+            (numbered_name uuid e.number) there.0 e.receipt there.2 told header.told;
         no_checkpoint = header.no_checkpoint;
-        inside = omega (arith, header.payload_is, has.parts.reach, has.before);
+        payload_is = header.payload_is;
+      } in (
+        has.payload,
+        record {
+          there = subst (λ n. HasPayloadThere volume_of objects n has.payload) has.named own;
+          inside = omega (arith, has.parts.reach, has.before);
+          in_table = subst (λ n. HasPayloadIn n has.payload queue.maps.objects.rows) has.named has.in_table;
+        },
+      )
+
+  pub named_there : AreNamedThere volume_of objects rows
+  named_there k place at =
+      let has = payload_of_place k place at in
+      let there = has.1.there in
+      record {
+        bytes = there.bytes;
+        present = there.present;
+        header = there.header;
+        is_header = there.is_header;
+        no_checkpoint = there.no_checkpoint;
+        inside = omega (arith, there.payload_is, has.1.inside);
       }
+
+  -- and the table says its payload
+  payload_in_row : (row : Option ObjectRow) (n payload : ℕ) → HasPayloadThere volume_of objects n payload
+      → ((r : ObjectRow) → row ≡ Some r → r.payload ≡ payload)
+      → IfSome row (λ (r : ObjectRow). HasPayloadThere volume_of objects n r.payload)
+  payload_in_row None n payload there says = tt
+  payload_in_row (Some r) n payload there says = subst (HasPayloadThere volume_of objects n) (sym (says r refl)) there
+
+  pub payloads_there : ArePayloadsThere volume_of objects queue
+  payloads_there k place at =
+      let from = mapped_from (place_at stored_on rows k) place (sym (begun.settled k) ∙ at) in
+      let has = payload_of_place k from.0 from.1 in
+      let its = has.1.in_table in
+      subst (λ (p : ObjectPlace). IfSome (row_of p.number queue.maps.objects.rows) (λ (r : ObjectRow).
+      HasPayloadThere volume_of objects p.number r.payload)) from.2
+      (payload_in_row (row_of from.0.number queue.maps.objects.rows) from.0.number has.0 has.1.there (λ r is.
+      let both : Some r ≡ Some its.row = sym is ∙ its.there in
+      let same : r ≡ its.row = cc in
+      ap (λ (o : ObjectRow). o.payload) same ∙ its.payload_is))

@@ -1,16 +1,21 @@
 -- The end before an object, and what is refused for it.
-use Rattle.std.proofs.Common.{◌≡◌, ℕ, ◌+◌, ◌-◌, ◌<◌, ◌≤◌, ◌&&◌, inl, inr, Bool, true, false, Option, Some, None, List, length}
+use Rattle.std.proofs.Common.{◌≡◌, ℕ, ◌+◌, ◌-◌, ◌<◌, ◌≤◌, ◌&&◌, inl, inr, Bool, true, false, Option, Some, None, List, []}
+use Rattle.std.proofs.Common.{length}
 use Rattle.std.proofs.Common.{refl, sym, ◌∙◌, ap, subst, arith}
 use Rattle.std.specs.Prelude.{IsTrue, IfSome}
 use Rattle.std.specs.Option.{IsSomeAnd}
-use Rattle.std.proofs.lemmas.Bool.{cases_lt}
+use Rattle.std.proofs.lemmas.Bool.{cases_lt, and_parts}
+use Rattle.std.proofs.lemmas.Bool.Decides.{nat_tests}
 use Rattle.lsvd_objstore.specs.Objects.{Objects, found}
 use Rattle.lsvd_objstore.specs.Store.{ReceiptState}
 use Rattle.object_format.specs.declared.header.Header.{Header}
 use Rattle.object_format.specs.declared.expected.Expected.{Expected}
 use Rattle.object_format.specs.declared.reason.BadObject as reason_type
 use Rattle.object_format.specs.declared.reason.BadObject.TheVariants as reasons
+use Rattle.object_format.specs.declared.kind.Kind.{Kind}
+use Rattle.object_format.specs.declared.kind.Kind.TheVariants as kinds
 use Rattle.object_format.specs.declared.rows.Rows.{Rows}
+use Rattle.object_format.specs.declared.rows.Rows.TheVariants as rows_of
 use Rattle.object_format.specs.Header.{has_due_seqs, begins_at, has_seqs_of_kind, IsObjectHeader}
 use Rattle.object_format.specs.Object.{IsObject}
 use Rattle.object_format.specs.Tests.{PassesObjectTest, IsObjectRefusedAs}
@@ -19,6 +24,7 @@ use Rattle.object_format.proofs.TestLemmas.{header_in-IsHeader, header_passes}
 use Rattle.extent_map.specs.declared.extent.Extent.{Extent}
 use Rattle.ckpt_format.specs.declared.place.StoredPlace.{StoredPlace}
 use Rattle.ckpt_format.specs.Checkpoint.{checkpoint_header, IsCheckpoint}
+use Rattle.ckpt_format.proofs.LawLemmas.{is_object_without_rows}
 use Rattle.object_stream.specs.Replay.{object_name}
 use Rattle.stopped_volume.specs.Expected.{expected_alone}
 use Rattle.stopped_volume.specs.Opening.{owned_by}
@@ -270,3 +276,50 @@ module _ (volume : Expected) (objects : Objects) where
       let moved = subst (λ e. IsObject good.bytes (length good.bytes) (expected e) is.0 is.1) end is.2 in
       refused_is_none good.bytes (length good.bytes) (expected bad.end_before) reason
       (subst (λ bytes. IsObjectRefusedAs bytes (length bytes) (expected bad.end_before) reason) same bad.holds) is.0 is.1 moved
+
+-- ---- a checkpoint without rows
+
+-- the header of an object without rows is that of a checkpoint
+checkpoint_header_is : (expected : Expected) (header : Header) → kinds.Checkpoint ≡ header.kind → header.uuid ≡ expected.uuid
+    → header.number ≡ expected.number → header.first_seq ≡ header.end_seq → 0 ≡ header.rows → header.payload ≡ 0
+    → header ≡ checkpoint_header expected header.end_seq 0
+checkpoint_header_is expected header kind uuid number seqs rows payload =
+    let Of : Kind → List ℕ → ℕ → ℕ → ℕ → ℕ → Header = λ k u n first count size.
+    record { kind = k; uuid = u; number = n; first_seq = first; end_seq = header.end_seq; rows = count; payload = size } in
+    ap (λ k. Of k header.uuid header.number header.first_seq header.rows header.payload) (sym kind)
+    ∙ (ap (λ u. Of kinds.Checkpoint u header.number header.first_seq header.rows header.payload) uuid
+    ∙ (ap (λ n. Of kinds.Checkpoint expected.uuid n header.first_seq header.rows header.payload) number
+    ∙ (ap (λ n. Of kinds.Checkpoint expected.uuid expected.number n header.rows header.payload) seqs
+    ∙ (ap (λ n. Of kinds.Checkpoint expected.uuid expected.number header.end_seq n header.payload) (sym rows)
+    ∙ ap (λ n. Of kinds.Checkpoint expected.uuid expected.number header.end_seq 0 n) payload))))
+
+checkpoint_seqs : (header : Header) (after : Bool) → kinds.Checkpoint ≡ header.kind
+    → IsTrue (has_seqs_of_kind header header.kind && after) → header.first_seq ≡ header.end_seq
+checkpoint_seqs header after kind is =
+    let of_kind : IsTrue (has_seqs_of_kind header kinds.Checkpoint) =
+    subst (λ k. IsTrue (has_seqs_of_kind header k)) (sym kind)
+    (and_parts (has_seqs_of_kind header header.kind) after is).0 in
+    grind (arith, nat_tests)
+
+-- none is past the newest checkpoint
+pub none_past : (volume : Expected) (objects : Objects) (base number : ℕ) (bytes : List ℕ) (before : Option ℕ) (header : Header)
+    → IsNewest volume objects base → base < number → found objects (object_name volume number) ≡ Some bytes
+    → IsObject bytes (length bytes) (record volume { number = number; end_before = before }) header rows_of.Checkpoint → ⊥
+none_past volume objects base number bytes before header newest past there is =
+    let expected : Expected = record volume { number = number; end_before = before } in
+    let alone = expected_alone volume number in
+    let object = alone_object bytes (length bytes) expected header rows_of.Checkpoint is in
+    let kind = is.rows_are.kind in
+    let seqs = checkpoint_seqs header (begins_at header.first_seq before) kind is.head.seqs in
+    let same = checkpoint_header_is alone header kind is.head.uuid is.head.number seqs is.rows_are.count
+    (grind (arith, nat_tests, is.rows_are.spelling)) in
+    let whole = subst (λ h. IsObject bytes (length bytes) alone h rows_of.Checkpoint) same object in
+    let low = newest number header.end_seq (owned_by [])
+    (record {
+      bytes = bytes;
+      present = there;
+      rows = [];
+      is_checkpoint = (is_object_without_rows bytes alone header.end_seq).1 whole;
+      says = λ k. refl;
+    }) in
+    omega (arith, low, past)

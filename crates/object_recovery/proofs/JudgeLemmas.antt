@@ -14,9 +14,8 @@ use Rattle.object_stream.specs.Replay.{object_name}
 use Rattle.stopped_volume.specs.Objects.{landed_in, IsWhole}
 use Rattle.object_recovery.specs.declared.judging.Reached.{Reached}
 use Rattle.object_recovery.specs.declared.judging.ObjectRefusal.{ObjectRefusal}
-use Rattle.object_recovery.specs.declared.judging.ObjectRefusal.TheVariants as refusals
 use Rattle.object_recovery.specs.Judging.{IsEndOf, HasEnd, IsEndBefore, expected_after, IsGoodObject, IsBadObject, AreGood}
-use Rattle.object_recovery.specs.Judging.{IsNotData, HaveLanded}
+use Rattle.object_recovery.specs.Judging.{HaveLanded}
 use Rattle.object_recovery.specs.declared.judging.Judged.{Judged}
 use Rattle.object_recovery.specs.declared.reading.ReadObject.{ReadObject}
 use Rattle.object_recovery.specs.declared.reading.ReadObject.TheVariants as read
@@ -25,7 +24,7 @@ use Rattle.object_recovery.specs.Judged.{judged_by, IsBadFor, IsJudged, IsJudged
 use Rattle.object_recovery.specs.Judged.{refused_with, StaysRefused}
 use Rattle.object_recovery.specs.Judged.{IsVerdict, IsReached}
 use Rattle.object_recovery.specs.Adoption.{IsWhyLeft, IsNotAdopted}
-use Rattle.object_recovery.proofs.EndLemmas.{before_next, end_of_object, end_past}
+use Rattle.object_recovery.proofs.EndLemmas.{before_next, end_of_object, end_past, none_past}
 use Rattle.object_recovery.proofs.FindLemmas.{of_told}
 
 -- ---- an object that was read
@@ -75,8 +74,8 @@ module _ (volume : Expected) (objects : Objects) where
         → Such number ⊎ IsGoodObject volume objects last number)
         → IsVerdict volume objects last Such refused → IsVerdict volume objects last More refused
     verdict_wider None kept cover is = good_wider cover is
-    verdict_wider (Some (refusals.Bad at reason)) kept cover is = (
-      kept at is.0,
+    verdict_wider (Some refusal) kept cover is = (
+      kept refusal.number is.0,
       is.1,
       λ number bytes more fits there.
           elim (cover number bytes more.0 fits there) [
@@ -84,11 +83,11 @@ module _ (volume : Expected) (objects : Objects) where
             | inr good ↦ good
           ],
     )
-    verdict_wider (Some (refusals.NotData at)) kept cover is = (kept at is.0, is.1, good_wider cover is.2)
 
   -- a bad object that is past all is the greatest
   verdict_bad : (last : ℕ) (More : ℕ → Type 0) (at : ℕ) (reason : BadObject) → IsBadObject volume objects last at reason → More at
-      → ((number : ℕ) → More number → number ≤ at) → IsVerdict volume objects last More (Some (refusals.Bad at reason))
+      → ((number : ℕ) → More number → number ≤ at) → IsVerdict volume objects last More
+      (Some (record { number = at; reason = reason }))
   verdict_bad last More at reason bad more most =
       (more, bad, λ number bytes such fits there. let to = most number such.0 in absurd (omega (arith, to, such.1)))
 
@@ -188,25 +187,18 @@ module _ (volume : Expected) (objects : Objects) where
           → IsWhyLeft bytes (length bytes) (expected_after volume at reached.end) refused
           → IsVerdict volume objects last (UpTo base at) refused
       of_left last to None why = good_more last to (why.1, why.2, why.3)
-      of_left last to (Some (refusals.Bad number reason)) why =
-          subst (λ n. IsVerdict volume objects last (UpTo base at) (Some (refusals.Bad n reason))) (sym why.0)
-          (verdict_more last (UpTo base reached.number) (UpTo base at) at bytes reached.end named there (before_at last to)
-          here kept cover
-          (λ other more. more.1) (Some reason) None why.1 (all_good last to))
-      of_left last to (Some (refusals.NotData number)) why =
-          let no_data : IsNotData volume objects last at =
-          record {
-            before = to;
-            bytes = bytes;
-            present = there;
-            end_before = reached.end;
-            header = why.1;
-            rows = why.2;
-            is_object = why.3;
-            other = why.4;
-          } in
-          subst (λ n. IsVerdict volume objects last (UpTo base at) (Some (refusals.NotData n))) (sym why.0)
-          (here, no_data, good_more last to (why.1, why.2, why.3))
+      of_left last to (Some refusal) why =
+          subst (λ n. IsVerdict volume objects last (UpTo base at) (Some (record { number = n; reason = refusal.reason })))
+          (sym why.0)
+          (elim why.1 [
+            | inl bad ↦
+                verdict_more last (UpTo base reached.number) (UpTo base at) at bytes reached.end named there
+                (before_at last to) here kept cover
+                (λ other more. more.1) (Some refusal.reason) None bad (all_good last to)
+            | inr checkpoint ↦
+                absurd (none_past volume objects base at bytes reached.end checkpoint.0 is.newest (omega (arith, is.from)) there
+                checkpoint.1)
+          ])
 
       pub reached_left : IsReached volume objects base left
       reached_left =

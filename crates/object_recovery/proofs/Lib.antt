@@ -16,12 +16,16 @@ pub mod RemovalLemmas
 pub mod AdoptionLemmas
 pub mod JudgeLemmas
 pub mod PastLemmas
+pub mod ContentLemmas
+pub mod SourceLemmas
 pub mod StreamLemmas
 pub mod ListLemmas
 pub mod PlaceLemmas
+pub mod PayloadLemmas
 pub mod TableLemmas
 pub mod RecoverLemmas
 pub mod BegunTable
+pub mod LivePayloads
 pub mod BeginLemmas
 pub mod RefusalLemmas
 pub mod OutcomeLemmas

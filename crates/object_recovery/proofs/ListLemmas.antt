@@ -3,15 +3,20 @@ use Rattle.std.proofs.Common.{◌≡◌, ℕ, ◌+◌, ◌^◌, ◌<◌, cond, B
 use Rattle.std.proofs.Common.{sym, ◌∙◌, ap, subst, arith}
 use Rattle.std.specs.Prelude.{IfSome}
 use Rattle.lsvd_base.specs.declared.geometry.Geometry.{Geometry}
-use Rattle.extent_map.specs.Extents.{is_within}
+use Rattle.extent_map.specs.Extents.{is_within, place_at}
+use Rattle.extent_map.specs.State.{MapState}
 use Rattle.lsvd_objstore.specs.Objects.{Objects, found}
 use Rattle.lsvd_objstore.specs.Store.{ReceiptState}
 use Rattle.object_format.specs.declared.data_row.DataRow.{DataRow}
 use Rattle.object_format.specs.declared.expected.Expected.{Expected}
-use Rattle.object_format.specs.declared.rows.Rows.TheVariants.{Data}
 use Rattle.object_stream.specs.Replay.{object_name, expected_at}
 use Rattle.upload_window.specs.Window.{WindowState}
-use Rattle.volume_maps.specs.Maps.{logged_by}
+use Rattle.volume_maps.specs.declared.place.LogPlace.{LogPlace}
+use Rattle.volume_maps.specs.Places.{log_on}
+use Rattle.volume_maps.specs.Maps.{MapsState, logged_at, logged_by}
+use Rattle.object_uploads.specs.declared.rows.SealedRows.{SealedRows}
+use Rattle.object_uploads.specs.declared.rows.SealedRows.TheVariants as sealed_rows
+use Rattle.object_uploads.specs.Queue.{SettlesSealed}
 use Rattle.obj_log.specs.State.{ObjLogState}
 use Rattle.obj_log.specs.Changes.{expected_of_volume, next_of, HasAdoptedObject}
 use Rattle.object_recovery.specs.declared.judging.Reached.{Reached}
@@ -35,6 +40,15 @@ none_logged : (end : ℕ) (rows : List DataRow) (k : ℕ) → logged_by end rows
 none_logged end [] k = refl
 none_logged end (row ∷ rows) k = none_by_test (is_within row.lba row.sectors k) end rows k (none_logged end rows k)
 
+-- and so do those of any object
+none_settled : (number size end : ℕ) (rows : SealedRows) (old new : MapsState) → SettlesSealed number size rows end old new
+    → ((k : ℕ) → logged_at old k ≡ None) → (k : ℕ) → logged_at new k ≡ None
+none_settled number size end (sealed_rows.Data list) old new settles none k =
+    settles.logged k ∙ (ap (λ place. logged_by end list.items place k) (none k) ∙ none_logged end list.items k)
+none_settled number size end (sealed_rows.Copy list) old new settles none k = settles.logged k ∙ none k
+none_settled number size end sealed_rows.Checkpoint old new settles none k =
+    ap (λ (map : MapState LogPlace). place_at log_on map.rows k) settles.log ∙ none k
+
 -- a list is one of its own uuid and its own sizes
 pub own_list : (uuid : List ℕ) (geometry : Geometry) (number end : ℕ) (log : ObjLogState)
     → IsListUpTo uuid geometry number end log
@@ -46,7 +60,7 @@ own_list uuid geometry number end log is =
     (subst (λ e. IsListUpTo uuid geometry number e log) (sym is.end_is) is)))
 
 -- and with the next object it is one
-pub list_more : (uuid : List ℕ) (geometry : Geometry) (number before end : ℕ) (rows : List DataRow) (receipt : ReceiptState)
+pub list_more : (uuid : List ℕ) (geometry : Geometry) (number before end : ℕ) (rows : SealedRows) (receipt : ReceiptState)
     (old new : ObjLogState)
     → IsListUpTo uuid geometry number before old → HasAdoptedObject rows end receipt old new
     → IsListUpTo uuid geometry new.uploads.window.last new.uploads.queue.end new
@@ -64,7 +78,9 @@ list_more uuid geometry number before end rows receipt old new is adopted =
       frontier = omega (arith, now.settled.frontier, is.frontier, last, was);
       end_is = refl;
       sealed = now.settled.sealed;
-      logged = λ k. now.settled.maps.logged k ∙ ap (λ place. logged_by end rows place k) (is.logged k) ∙ none_logged end rows k;
+      logged =
+          none_settled (old.uploads.queue.frontier + 1) receipt.size end rows old.uploads.queue.maps new.uploads.queue.maps
+          now.settled.maps is.logged;
     }
 
 -- ---- the streams
@@ -143,13 +159,13 @@ module _ (volume : Expected) (log : ObjLogState) (uuid : List ℕ) (geometry : G
       let there = subst (λ e. IsStoredAs objects e adopts.rows adopts.end adopts.receipt) next_after (adopts.stored tells) in
       let expected = expected_after volume (log.uploads.window.last + 1) (Some log.uploads.queue.end) in
       let whole = there.is_object in
-      let own = end_of_object there.bytes (length there.bytes) expected there.header (Data there.list) whole in
+      let own = end_of_object there.bytes (length there.bytes) expected there.header there.rows_read whole in
       let ends = subst (λ e. IsEndOf there.bytes (length there.bytes) expected (Some e)) (there.end_is ∙ end) own in
       let Next : ℕ → Reached = λ n. record { number = n; end = Some new.uploads.queue.end; refused = None } in
       subst (λ n. IsReached volume objects base (Next n)) last
       (reached_next volume objects base (reached_by log) reached there.bytes adopts.named there.present
       (Some new.uploads.queue.end) None ends
-      (there.header, Data there.list, whole))
+      (there.header, there.rows_read, whole))
 
 -- so they are where the store tells its objects
 pub told_good : (told : Option Objects) (volume : Expected) (Tells : Type 0) (uuid : List ℕ) (geometry : Geometry)

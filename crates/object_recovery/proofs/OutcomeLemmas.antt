@@ -23,7 +23,6 @@ use Rattle.obj_log.specs.Changes.{expected_of_volume, next_of}
 use Rattle.object_recovery.specs.declared.error.RecoverError.{RecoverError}
 use Rattle.object_recovery.specs.declared.judging.Reached.{Reached}
 use Rattle.object_recovery.specs.declared.judging.ObjectRefusal.{ObjectRefusal}
-use Rattle.object_recovery.specs.declared.judging.ObjectRefusal.TheVariants as refusals
 use Rattle.object_recovery.specs.Beginning.{BeginsList, BeginsInStore}
 use Rattle.object_recovery.specs.Checkpoints.{expected_of, ReadCheckpoint, IsStoredCheckpoint, IsNewest, IsNewestWithEnd}
 use Rattle.object_recovery.specs.declared.error.RecoverError.TheVariants as errors
@@ -143,7 +142,7 @@ module _ (volume : Expected) (objects : Objects) (base : ℕ) where
 
   pub why_refused : (refusal : ObjectRefusal) → AreJudged volume objects base (Some refusal)
       → IsWhyObjectsRefused volume objects (of_refusal refusal)
-  why_refused (refusals.Bad number reason) is =
+  why_refused refusal is =
       let verdict = is.verdict in (
         base,
         is.last,
@@ -154,9 +153,6 @@ module _ (volume : Expected) (objects : Objects) (base : ℕ) where
           greater = λ other bytes past fits there. verdict.2 other bytes (omega (arith, verdict.0, past), past) fits there;
         },
       )
-  why_refused (refusals.NotData number) is =
-      let verdict = is.verdict in
-      (base, is.last, is.run, verdict.0, verdict.1, verdict.2)
 
 -- ---- a recovery
 
@@ -375,13 +371,11 @@ store_counts T store.OutOfMemory old new counts = counts
 
 -- an error by which an object is refused refuses what the store has, and is no fault
 pub refusal_is_one : (refusal : ObjectRefusal) (error : RecoverError) → error ≡ of_refusal refusal → IsRefusal error
-refusal_is_one (refusals.Bad number reason) error is = subst IsRefusal (sym is) tt
-refusal_is_one (refusals.NotData number) error is = subst IsRefusal (sym is) tt
+refusal_is_one refusal error is = subst IsRefusal (sym is) tt
 
 pub refusal_counts : (error : RecoverError) (old new : ℕ) → IsRefusal error → new ≡ old → Counts (is_store_fault error) old new
 refusal_counts errors.NoCheckpoint old new is same = same
 refusal_counts (errors.BadObject number reason) old new is same = same
-refusal_counts (errors.NotData number) old new is same = same
 refusal_counts (errors.MissingObject number) old new is same = same
 refusal_counts errors.StoreFault old new is same = absurd is
 refusal_counts errors.OutOfMemory old new is same = absurd is

@@ -1,26 +1,41 @@
 -- Where the places in the map of a recovered list lie.
-use Rattle.std.proofs.Common.{◌≡◌, ℕ, ◌+◌, ◌-◌, ◌<◌, ◌==◌, nat_le, cond, Bool, true, false, Option, Some, None, List, [], ◌∷◌}
+use Rattle.std.proofs.Common.{◌≡◌, ℕ, ◌+◌, ◌-◌, ◌*◌, ◌<◌, ◌≤◌, ◌==◌, ◌&&◌, nat_le, nat_lt, cond, Bool, true, false, Option}
+use Rattle.std.proofs.Common.{Some, None}
+use Rattle.std.proofs.Common.{List, [], ◌∷◌}
 use Rattle.std.proofs.Common.{refl, sym, ◌∙◌, ap, subst, arith}
 use Rattle.std.specs.Prelude.{IsTrue, IfSome}
+use Rattle.std.specs.Global.{Vec}
+use Rattle.std.proofs.lemmas.Bool.{and_parts, leb-true, eqb-true}
 use Rattle.std.proofs.lemmas.Bool.Decides.{nat_tests}
 use Rattle.extent_map.specs.Extents.{is_within, place_at}
 use Rattle.lsvd_objstore.specs.Store.{ReceiptState}
+use Rattle.object_format.specs.declared.copy_row.CopyRow.{CopyRow}
 use Rattle.object_format.specs.declared.data_row.DataRow.{DataRow}
 use Rattle.object_format.specs.declared.expected.Expected.{Expected}
+use Rattle.object_format.specs.declared.header.Header.{Header}
 use Rattle.object_format.specs.declared.kind.Kind.TheVariants as kinds
+use Rattle.object_format.specs.declared.rows.Rows.{Rows}
+use Rattle.object_format.specs.declared.rows.Rows.TheVariants as rows_of
 use Rattle.object_format.specs.Layout.{front_sectors, front_with}
 use Rattle.object_format.specs.Rows.{is_at, payload_at, data_payload, data_may_stand, data_rows_may_stand}
+use Rattle.object_format.specs.Rows.{is_inside, copy_may_follow, is_source, copy_may_stand, copy_rows_may_stand}
+use Rattle.object_table.specs.Table.{new_row, added}
 use Rattle.volume_maps.specs.declared.place.ObjectPlace.{ObjectPlace}
 use Rattle.volume_maps.specs.Places.{object_on}
-use Rattle.volume_maps.specs.Maps.{row_object_place, settled_by_row, settled_by, settled_at}
+use Rattle.volume_maps.specs.Live.{is_live, HasSameObjects}
+use Rattle.volume_maps.specs.Maps.{row_object_place, settled_by_row, settled_by, settled_by_copy_row, settled_by_copy, settled_at}
+use Rattle.object_uploads.specs.declared.rows.SealedRows.{SealedRows}
+use Rattle.object_uploads.specs.declared.rows.SealedRows.TheVariants as sealed_rows
 use Rattle.object_uploads.specs.State.{StoredObject, QueueState}
-use Rattle.object_uploads.specs.Queue.{front_of, payload_of, stored_at, IsNextSettled}
+use Rattle.object_uploads.specs.Queue.{front_of, copy_front_of, payload_of, copy_payload_of, stored_at, IsNextSettled}
 use Rattle.object_uploads.specs.Order.{AreKnown}
 use Rattle.object_uploads.proofs.ImageLemmas.{known_up_to}
 use Rattle.object_uploads.proofs.SettleImage.{added_data}
 use Rattle.object_uploads.proofs.StoredLemmas.{IsAddedTo, still_stored, next_stored}
-use Rattle.object_recovery.specs.Places.{IsInsideObject, HasPlacesInside}
-use Rattle.object_recovery.specs.Adoption.{IsReadAsData}
+use Rattle.object_uploads.specs.Collection.{IsInsideObject}
+use Rattle.object_recovery.specs.Places.{HasPlacesInside}
+use Rattle.object_recovery.specs.Adoption.{adoptable_rows, IsReadToAdopt}
+use Rattle.object_recovery.specs.Read.{IsReadAs}
 
 -- what is so of the thing that there is
 pub so_some : {X : Type 0} (P : X → Type 0) (option : Option X) → ((x : X) → option ≡ Some x → P x) → IfSome option P
@@ -62,6 +77,48 @@ module _ (volume payload number k : ℕ) (Holds : ObjectPlace → Type 0)
         (grind (arith, nat_tests))
         (by_test (is_within row.lba row.sectors k) earlier stand_at row before refl stands holds)
 
+-- ---- by the rows of a copy
+
+module _ (volume payload number at k : ℕ) (Holds : ObjectPlace → Type 0)
+    (own : (place i : ℕ) → k < volume → place + i < payload
+    → Holds (record { level = 0; number = at; sector = place + i })) where
+  abbrev own_at : ℕ → ObjectPlace
+  own_at sector = record { level = 0; number = at; sector = sector }
+
+  within_row : (lba sectors : ℕ) → is_within lba sectors k ≡ true → (lba ≤ k) × (k < lba + sectors)
+  within_row lba sectors test = (grind (arith, nat_tests), grind (arith, nat_tests))
+
+  by_copy_row : (inside live : Bool) (earlier : Option CopyRow) (place : ℕ) (row : CopyRow) (before : Option ObjectPlace)
+      → is_within row.lba row.sectors k ≡ inside → IsTrue (copy_may_stand volume payload number earlier place row)
+      → IfSome before Holds
+      → IfSome (cond (inside && live) (Some (own_at (row.place + (k - row.lba)))) before) Holds
+  by_copy_row false live earlier place row before test stands holds = holds
+  by_copy_row true false earlier place row before test stands holds = holds
+  by_copy_row true true earlier place row before test stands holds =
+      let inside_and_after = is_inside volume row.lba row.sectors && copy_may_follow earlier row in
+      let room_test = nat_le (place + row.sectors) payload in
+      let a = and_parts (inside_and_after && (row.place == place) && room_test) (is_source number row.sectors row.source) stands
+      in
+      let b = and_parts (inside_and_after && (row.place == place)) room_test a.0 in
+      let c = and_parts inside_and_after (row.place == place) b.0 in
+      let d = and_parts (is_inside volume row.lba row.sectors) (copy_may_follow earlier row) c.0 in
+      let at_place = eqb-true _ _ c.1 in
+      let room = leb-true _ _ b.1 in
+      let low = leb-true _ _ (and_parts (nat_lt 0 row.sectors) (nat_le (row.lba + row.sectors) volume) d.0).1 in
+      let within = within_row row.lba row.sectors test in
+      own row.place (k - row.lba) (omega (arith, low, within.1)) (omega (arith, at_place, room, within.0, within.1))
+
+  holds_by_copy : (earlier : Option CopyRow) (place : ℕ) (rows : List CopyRow) (before : Option ObjectPlace)
+      → IsTrue (copy_rows_may_stand volume payload number earlier place rows) → IfSome before Holds
+      → IfSome (settled_by_copy at rows before k) Holds
+  holds_by_copy earlier place [] before stand holds = holds
+  holds_by_copy earlier place (row ∷ rows) before stand holds =
+      let parts = and_parts (copy_may_stand volume payload number earlier place row)
+      (copy_rows_may_stand volume payload number (Some row) (place + row.sectors) rows) stand in
+      holds_by_copy (Some row) (place + row.sectors) rows (settled_by_copy_row at row before k) parts.1
+      (by_copy_row (is_within row.lba row.sectors k) (is_live row.source.number before) earlier place row before refl parts.0
+      holds)
+
 -- ---- an object that is adopted
 
 inside_kept : (was is : Option StoredObject) (at : ℕ) → ((object : StoredObject) → was ≡ Some object → is ≡ Some object)
@@ -75,59 +132,124 @@ inside_by : (own : Bool) (was is : Option StoredObject) (at : ℕ)
 inside_by true was is at kept inside = inside_kept was is at kept inside
 inside_by false was is at kept inside = absurd inside
 
--- what is in the store with the next object
-module _ (uuid : List ℕ) (rows : List DataRow) (end : ℕ) (receipt : ReceiptState) (old new : QueueState)
-    (known : AreKnown uuid old) (next : IsNextSettled rows end receipt old new) where
-  added : IsAddedTo (old.frontier + 1) (front_of rows) receipt old.receipts old.maps.objects.rows new.receipts
-      new.maps.objects.rows
-  added =
+-- what is in the store with the next object, which has so many sectors of payload, and so many before it
+module _ (uuid : List ℕ) (sectors end gained payload front : ℕ) (rows : SealedRows) (receipt : ReceiptState)
+    (old new : QueueState)
+    (known : AreKnown uuid old) (next : IsNextSettled rows end receipt old new)
+    (objects : HasSameObjects (added (new_row (old.frontier + 1) gained front) old.maps.objects) new.maps.objects)
+    (size : receipt.size ≡ 512 * (front + payload)) where
+  is_added : IsAddedTo (old.frontier + 1) front receipt old.receipts old.maps.objects.rows new.receipts new.maps.objects.rows
+  is_added =
       rw next.receipts (
-      added_data (old.frontier + 1) (payload_of receipt.size rows) (front_of rows) receipt old.receipts old.maps.objects
-      new.maps.objects next.maps.objects
+      added_data (old.frontier + 1) gained front receipt old.receipts old.maps.objects new.maps.objects objects
       )
 
   still_inside : (place : ObjectPlace) → IsInsideObject (stored_at old place) place.sector
       → IsInsideObject (stored_at new place) place.sector
   still_inside place inside =
       inside_by (place.level == 0) _ _ place.sector
-      (still_stored (old.frontier + 1) (front_of rows) receipt old.receipts new.receipts old.maps.objects.rows
-      new.maps.objects.rows added place.number) inside
+      (still_stored (old.frontier + 1) front receipt old.receipts new.receipts old.maps.objects.rows
+      new.maps.objects.rows is_added place.number) inside
 
   own_stored : (sector : ℕ) → stored_at new (record { level = 0; number = old.frontier + 1; sector = sector })
-      ≡ Some (record { receipt = receipt; front = front_of rows })
+      ≡ Some (record { receipt = receipt; front = front })
   own_stored sector =
-      next_stored (old.frontier + 1) (front_of rows) receipt old.receipts new.receipts old.maps.objects.rows
-      new.maps.objects.rows added old.frontier (omega arith) (known_up_to uuid old known)
+      next_stored (old.frontier + 1) front receipt old.receipts new.receipts old.maps.objects.rows
+      new.maps.objects.rows is_added old.frontier (omega arith) (known_up_to uuid old known)
 
-pub places_more : (uuid : List ℕ) (sectors end : ℕ) (rows : List DataRow) (expected : Expected) (receipt : ReceiptState)
+  -- a sector of the volume is inside an object
+  abbrev Inside : ℕ → ObjectPlace → Type 0
+  Inside k place = (k < sectors) × (place.level ≡ 0) × IsInsideObject (stored_at new place) place.sector
+
+  own_inside : (k at i : ℕ) → k < sectors → at + i < payload
+      → Inside k (record { level = 0; number = old.frontier + 1; sector = at + i })
+  own_inside k at i low below = (
+    low,
+    refl,
+    subst (λ o. IsInsideObject o (at + i)) (sym (own_stored (at + i))) (omega (arith, size, below)),
+  )
+
+  before_inside : HasPlacesInside sectors old → (k : ℕ) → IfSome (settled_at old.maps k) (Inside k)
+  before_inside inside k =
+      so_some (Inside k) (settled_at old.maps k) (λ place is.
+      let was = inside k place is in
+      (was.0, was.1, still_inside place was.2))
+
+  places_by : HasPlacesInside sectors old
+      → ((k : ℕ) → IfSome (settled_at old.maps k) (Inside k) → IfSome (settled_at new.maps k) (Inside k))
+      → HasPlacesInside sectors new
+  places_by inside keeps k place at =
+      some_so (Inside k) (settled_at new.maps k) (keeps k (before_inside inside k)) place at
+
+module _ (uuid : List ℕ) (sectors end : ℕ) (expected : Expected) (header : Header) (receipt : ReceiptState)
+    (old new : QueueState) (known : AreKnown uuid old) (same : expected.sectors ≡ sectors)
+    (inside : HasPlacesInside sectors old) where
+  of_data : (list : Vec DataRow) → IsReadAs receipt expected header (rows_of.Data list)
+      → IsNextSettled (sealed_rows.Data list) end receipt old new → HasPlacesInside sectors new
+  of_data list is next =
+      let object = is.is_object in
+      let payload = header.payload in
+      let front : front_sectors header ≡ front_of list.items =
+      ap (λ kind. front_with kind header.rows) (sym object.rows_are.kind)
+      ∙ ap (front_with kinds.Data) (sym object.rows_are.count) in
+      let size : receipt.size ≡ 512 * (front_of list.items + payload) =
+      object.head.has_size ∙ ap (λ n. 512 * (n + payload)) front in
+      let stand : IsTrue (data_rows_may_stand sectors payload None 0 list.items) =
+      subst (λ volume. IsTrue (data_rows_may_stand volume payload None 0 list.items)) same object.rows_are.spelling in
+      let gained = payload_of receipt.size list.items in
+      let rows = sealed_rows.Data list in
+      let objects = next.maps.objects in
+      places_by uuid sectors end gained payload (front_of list.items) rows receipt old new known next objects size inside
+      (λ k was.
+      let Holds : ObjectPlace → Type 0 =
+      Inside uuid sectors end gained payload (front_of list.items) rows receipt old new known next objects size k in
+      subst (λ o. IfSome o Holds) (sym (next.maps.settled k))
+      (holds_by_rows sectors payload (old.frontier + 1) k Holds
+      (own_inside uuid sectors end gained payload (front_of list.items) rows receipt old new known next objects size k)
+      None 0 list.items (settled_at old.maps k) stand was))
+
+  of_copy : (list : Vec CopyRow) → IsReadAs receipt expected header (rows_of.Copy list)
+      → IsNextSettled (sealed_rows.Copy list) end receipt old new → HasPlacesInside sectors new
+  of_copy list is next =
+      let object = is.is_object in
+      let payload = header.payload in
+      let front : front_sectors header ≡ copy_front_of list.items =
+      ap (λ kind. front_with kind header.rows) (sym object.rows_are.kind)
+      ∙ ap (front_with kinds.Copy) (sym object.rows_are.count) in
+      let size : receipt.size ≡ 512 * (copy_front_of list.items + payload) =
+      object.head.has_size ∙ ap (λ n. 512 * (n + payload)) front in
+      let stand : IsTrue (copy_rows_may_stand sectors payload header.number None 0 list.items) =
+      subst (λ volume. IsTrue (copy_rows_may_stand volume payload header.number None 0 list.items)) same
+      object.rows_are.spelling in
+      let gained = copy_payload_of receipt.size list.items in
+      let rows = sealed_rows.Copy list in
+      let objects = next.maps.objects in
+      places_by uuid sectors end gained payload (copy_front_of list.items) rows receipt old new known next objects size inside
+      (λ k was.
+      let Holds : ObjectPlace → Type 0 =
+      Inside uuid sectors end gained payload (copy_front_of list.items) rows receipt old new known next objects size k in
+      subst (λ o. IfSome o Holds) (sym (next.maps.settled k))
+      (holds_by_copy sectors payload header.number (old.frontier + 1) k Holds
+      (own_inside uuid sectors end gained payload (copy_front_of list.items) rows receipt old new known next objects size k)
+      None 0 list.items (settled_at old.maps k) stand was))
+
+  of_any : (rows_read : Rows) (rows : SealedRows) → adoptable_rows rows_read ≡ Some rows
+      → IsReadAs receipt expected header rows_read
+      → IsNextSettled rows end receipt old new → HasPlacesInside sectors new
+  of_any (rows_of.Data list) rows is was next =
+      let same_rows : rows ≡ sealed_rows.Data list = cc in
+      of_data list was (subst (λ r. IsNextSettled r end receipt old new) same_rows next)
+  of_any (rows_of.Copy list) rows is was next =
+      let same_rows : rows ≡ sealed_rows.Copy list = cc in
+      of_copy list was (subst (λ r. IsNextSettled r end receipt old new) same_rows next)
+  of_any rows_of.Checkpoint rows is was next = absurd cc
+
+pub places_more : (uuid : List ℕ) (sectors end : ℕ) (rows : SealedRows) (expected : Expected) (receipt : ReceiptState)
     (old new : QueueState)
-    → AreKnown uuid old → expected.sectors ≡ sectors → IsReadAsData receipt expected rows end
+    → AreKnown uuid old → expected.sectors ≡ sectors → IsReadToAdopt receipt expected rows end
     → IsNextSettled rows end receipt old new → HasPlacesInside sectors old → HasPlacesInside sectors new
-places_more uuid sectors end rows expected receipt old new known same read next inside k place at =
-    let Holds : ObjectPlace → Type 0 = λ p. (k < sectors) × (p.level ≡ 0) × IsInsideObject (stored_at new p) p.sector in
-    let object = read.read.is_object in
-    let payload = read.header.payload in
-    let front : front_sectors read.header ≡ front_of rows =
-    ap (λ kind. front_with kind read.header.rows) (sym object.rows_are.kind)
-    ∙ (ap (front_with kinds.Data) (sym object.rows_are.count) ∙ ap front_of read.items) in
-    let stand : IsTrue (data_rows_may_stand sectors payload None 0 rows) =
-    subst (λ list. IsTrue (data_rows_may_stand sectors payload None 0 list)) read.items
-    (subst (λ volume. IsTrue (data_rows_may_stand volume payload None 0 read.list.items)) same object.rows_are.spelling) in
-    let own : (stand_at i : ℕ) → k < sectors → stand_at + i < payload
-    → Holds (record { level = 0; number = old.frontier + 1; sector = stand_at + i }) =
-    λ stand_at i low below. (
-      low,
-      refl,
-      subst (λ o. IsInsideObject o (stand_at + i)) (sym (own_stored uuid rows end receipt old new known next (stand_at + i)))
-          (omega (arith, object.head.has_size, front, below)),
-    ) in
-    let before : IfSome (settled_at old.maps k) Holds =
-    so_some Holds (settled_at old.maps k) (λ p is.
-    let was = inside k p is in
-    (was.0, was.1, still_inside uuid rows end receipt old new known next p was.2)) in
-    some_so Holds (settled_at new.maps k)
-    (subst (λ o. IfSome o Holds) (sym (next.maps.settled k))
-    (holds_by_rows sectors payload (old.frontier + 1) k Holds own None 0 rows (settled_at old.maps k) stand before)) place at
+places_more uuid sectors end rows expected receipt old new known same is next inside =
+    of_any uuid sectors end expected is.header receipt old new known same inside is.rows_read rows is.adoptable is.read next
 
 -- a list without places has them so
 pub no_places : (sectors : ℕ) (queue : QueueState) → queue.maps.settled.rows ≡ [] → HasPlacesInside sectors queue

@@ -1,28 +1,17 @@
 -- What a recovery refuses.
-use Rattle.std.proofs.Common.{◌≡◌, ℕ, ◌+◌, ◌-◌, ◌*◌, ◌^◌, ◌<◌, ◌≤◌, inl, inr, Option, Some, None, List, length, drop, refl, sym}
+use Rattle.std.proofs.Common.{◌≡◌, ℕ, ◌+◌, ◌-◌, ◌^◌, ◌<◌, ◌≤◌, inl, inr, Option, Some, None, List, length, sym}
 use Rattle.std.proofs.Common.{◌∙◌, ap, subst, arith}
 use Rattle.std.specs.Prelude.{◌⊎◌, IfSome}
 use Rattle.std.proofs.lemmas.Bool.{cases_lt}
-use Rattle.lsvd_base.specs.declared.entry.Entry.{Entry}
 use Rattle.lsvd_base.specs.declared.geometry.Geometry.{Geometry}
 use Rattle.lsvd_names.specs.Spelling.{IsUuid}
 use Rattle.lsvd_names.specs.declared.name.ObjName.{ObjName}
 use Rattle.lsvd_objstore.specs.Objects.{Objects, found, Lists}
 use Rattle.object_format.specs.declared.expected.Expected.{Expected}
-use Rattle.object_format.specs.declared.header.Header.{Header}
-use Rattle.object_format.specs.declared.kind.Kind.TheVariants as kinds
 use Rattle.object_format.specs.declared.reason.BadObject.{BadObject}
-use Rattle.object_format.specs.declared.rows.Rows.{Rows}
-use Rattle.object_format.specs.declared.rows.Rows.TheVariants as rows_of
-use Rattle.object_format.specs.Rows.{AreObjectRows}
 use Rattle.object_format.specs.Tests.{IsObjectRefusedAs}
-use Rattle.object_format.specs.Layout.{front_sectors}
-use Rattle.object_stream.specs.declared.object.Content.{Content}
-use Rattle.object_stream.specs.declared.object.Content.TheVariants as content
-use Rattle.object_stream.specs.Replay.{object_name, HasParts, expected_at}
-use Rattle.object_stream.specs.Stored.{HasContent}
+use Rattle.object_stream.specs.Replay.{object_name, expected_at}
 use Rattle.object_stream.specs.Stream.{Stream, end_at}
-use Rattle.object_stream.proofs.OneLemmas.{same_parts}
 use Rattle.ckpt_format.specs.Checkpoint.{IsCheckpoint}
 use Rattle.lsvd_base.specs.Image.{Image}
 use Rattle.stopped_volume.specs.Expected.{expected_alone}
@@ -34,12 +23,12 @@ use Rattle.object_recovery.specs.Faults.{IsNoAnswer}
 use Rattle.object_recovery.specs.Adoption.{IsRecoveryBegun}
 use Rattle.object_recovery.specs.Checkpoints.{expected_of, ReadCheckpoint, IsNoCheckpoint, IsStoredCheckpoint, IsNewest}
 use Rattle.object_recovery.specs.Checkpoints.{IsNewestWithEnd}
-use Rattle.object_recovery.specs.Judging.{HasEnd, IsBadObject, IsNotData, IsRun, expected_after}
+use Rattle.object_recovery.specs.Judging.{HasEnd, IsBadObject, IsRun, expected_after}
 use Rattle.object_recovery.specs.Recovery.{HasDataUpTo, IsListUpTo, IsMissingThere, IsWhyObjectsRefused, IsRefusal}
 use Rattle.object_recovery.specs.Recovery.{IsRecoveryRefused}
 use Rattle.object_recovery.proofs.EndLemmas.{end_of_object, one_end_before, before_next}
 use Rattle.object_recovery.proofs.ReadLemmas.{refused_is_none}
-use Rattle.object_recovery.proofs.StreamLemmas.{is_stored, is_data, next_end}
+use Rattle.object_recovery.proofs.StreamLemmas.{is_stored, next_end}
 use Rattle.object_recovery.proofs.RecoverLemmas.{base_is, begin_end, hold_places}
 
 -- where there was no answer, nothing is refused
@@ -47,7 +36,6 @@ no_answer_why : (volume : Expected) (objects : Objects) (error : RecoverError) �
     → IsWhyObjectsRefused volume objects error
 no_answer_why volume objects errors.NoCheckpoint none = absurd none
 no_answer_why volume objects (errors.BadObject number reason) none = absurd none
-no_answer_why volume objects (errors.NotData number) none = absurd none
 no_answer_why volume objects (errors.MissingObject number) none = absurd none
 no_answer_why volume objects errors.StoreFault none = tt
 no_answer_why volume objects errors.OutOfMemory none = tt
@@ -55,7 +43,6 @@ no_answer_why volume objects errors.OutOfMemory none = tt
 no_answer_refuses : (error : RecoverError) → IsNoAnswer error → IsRefusal error → ⊥
 no_answer_refuses errors.NoCheckpoint none is = none
 no_answer_refuses (errors.BadObject number reason) none is = none
-no_answer_refuses (errors.NotData number) none is = none
 no_answer_refuses (errors.MissingObject number) none is = none
 no_answer_refuses errors.StoreFault none is = is
 no_answer_refuses errors.OutOfMemory none is = is
@@ -77,18 +64,6 @@ none_refused volume objects none = record {
 }
 
 -- ---- the objects of a stream
-
--- rows of a data object are those of its kind
-data_kind : (objects : Objects) (uuid_at : ℕ → Option (List ℕ)) (kind : Content) (entries : List Entry) (rows : Rows)
-    (payload : List ℕ)
-    (volume : ℕ) (header : Header)
-    → kind ≡ content.Data → HasContent objects uuid_at kind entries rows payload → AreObjectRows volume header rows
-    → header.kind ≡ kinds.Data
-data_kind objects uuid_at kind entries (rows_of.Data rows) payload volume header is has are = sym are.kind
-data_kind objects uuid_at kind entries (rows_of.Copy rows) payload volume header is has are =
-    absurd (subst (λ c. HasContent objects uuid_at c entries (rows_of.Copy rows) payload) is has)
-data_kind objects uuid_at kind entries rows_of.Checkpoint payload volume header is has are =
-    absurd (subst (λ c. HasContent objects uuid_at c entries rows_of.Checkpoint payload) is has)
 
 module _ (volume : Expected) (objects : Objects) (wide : volume.sectors < 2 ^ 64) (uuid_at : ℕ → Option (List ℕ))
     (stream : Stream) (opening : Image) (number : ℕ)
@@ -185,28 +160,6 @@ module _ (volume : Expected) (objects : Objects) (wide : volume.sectors < 2 ^ 64
               stored.header stored.rows_of stored.parts.is_object
         ]
 
-    -- each holds entries
-    none_other : (at : ℕ) → base < at → IsNotData volume objects last at → ⊥
-    none_other at past other =
-        let before = at - 1 in
-        let from : stream.number ≤ before = omega (arith, begins, past) in
-        let below : before < number = omega (arith, other.before, ends, past) in
-        let more : before + 1 ≡ at = omega (arith, past) in
-        let is = subst (IsNotData volume objects last) (sym more) other in
-        let stored = is_stored volume uuid_at objects stream opening number wide has before from below in
-        let same : is.bytes ≡ stored.bytes = let e = is.present in let f = stored.present in cc in
-        let expected = expected_after volume (before + 1) is.end_before in
-        let payload = drop (512 * front_sectors is.header) is.bytes in
-        let parts : HasParts expected is.bytes is.header is.rows payload =
-        record { is_object = is.is_object; payload_is = refl } in
-        let one = same_parts expected (expected_at volume (before + 1) (end_at stream before)) is.bytes stored.bytes is.header
-        stored.header
-        is.rows stored.rows_of payload stored.payload wide wide same parts stored.parts in
-        let kind = data_kind objects uuid_at _ _ stored.rows_of stored.payload volume.sectors stored.header
-        (is_data volume uuid_at objects stream opening number wide has before from below) stored.content
-        stored.parts.is_object.rows_are in
-        is.other (ap (λ (h : Header). h.kind) one.headers ∙ kind)
-
 -- each object that the newest checkpoint maps is there
 none_missing : (volume : Expected) (objects : Objects) (wide : volume.sectors < 2 ^ 64) (at : ℕ)
     → IsMissingThere volume objects at → (uuid_at : ℕ → Option (List ℕ)) (stream : Stream) (opening : Image) (number : ℕ)
@@ -227,8 +180,6 @@ why_no_stream volume objects wide errors.NoCheckpoint why uuid_at stream opening
     why stream.number stream.end stream.opening has.stored.opens.is.checkpoint
 why_no_stream volume objects wide (errors.BadObject at reason) why uuid_at stream opening number has is =
     none_bad volume objects wide uuid_at stream opening number has why.0 why.1 why.2 at reason why.3.after why.3.bad
-why_no_stream volume objects wide (errors.NotData at) why uuid_at stream opening number has is =
-    none_other volume objects wide uuid_at stream opening number has why.0 why.1 why.2 at why.3 why.4
 why_no_stream volume objects wide (errors.MissingObject at) why uuid_at stream opening number has is =
     none_missing volume objects wide at why uuid_at stream opening number has
 why_no_stream volume objects wide errors.StoreFault why uuid_at stream opening number has is = is

@@ -9,7 +9,7 @@ use Rattle.volume_maps.specs.Maps.{settled_at}
 use Rattle.object_uploads.specs.State.{StoredObject, QueueState}
 use Rattle.object_uploads.specs.Queue.{stored_at}
 use Rattle.object_uploads.specs.Image.{GivesSector, HoldsSector, HasImage}
-use Rattle.object_recovery.specs.Places.{IsInsideObject}
+use Rattle.object_uploads.specs.Collection.{IsInsideObject}
 use Rattle.object_recovery.specs.Laws.{ListHasSomeImage}
 
 -- the sector that is told to stand at a place, or zeros where none is told

@@ -1,21 +1,21 @@
 -- For this crate's own clauses: how the objects of a store are adopted, and the others judged.
 use Rattle.std.specs.Prelude.{◌≡◌, ℕ, ◌+◌, ◌-◌, ◌^◌, ◌<◌, ◌≤◌, ◌⊎◌, Option, Some, None, IfSome, List, length}
 use Rattle.std.specs.Prelude.{Result, IfOk, IfErr}
-use Rattle.std.specs.Global.{Vec}
 use Rattle.lsvd_names.specs.declared.name.ObjName.{ObjName}
 use Rattle.lsvd_base.specs.declared.geometry.Geometry.{Geometry}
 use Rattle.lsvd_fault.specs.Faults.{Counts}
 use Rattle.lsvd_objstore.specs.Objects.{Objects, found, Lists}
 use Rattle.lsvd_objstore.specs.Store.{StoreState, ReceiptState, OnlyCounts}
-use Rattle.object_format.specs.declared.data_row.DataRow.{DataRow}
 use Rattle.object_format.specs.declared.expected.Expected.{Expected}
 use Rattle.object_format.specs.declared.header.Header.{Header}
-use Rattle.object_format.specs.declared.kind.Kind.TheVariants as kinds
+use Rattle.object_format.specs.declared.reason.BadObject.{BadObject}
 use Rattle.object_format.specs.declared.rows.Rows.{Rows}
 use Rattle.object_format.specs.declared.rows.Rows.TheVariants as rows_of
 use Rattle.object_format.specs.Object.{IsObject}
 use Rattle.object_format.specs.Tests.{IsObjectRefusedAs}
 use Rattle.object_stream.specs.Replay.{object_name}
+use Rattle.object_uploads.specs.declared.rows.SealedRows.{SealedRows}
+use Rattle.object_uploads.specs.declared.rows.SealedRows.TheVariants as sealed_rows
 use Rattle.object_uploads.specs.Image.{IsReceiptFor}
 use Rattle.object_uploads.specs.Order.{IsUploads}
 use Rattle.obj_log.specs.State.{ObjLogState}
@@ -26,7 +26,6 @@ use Rattle.object_recovery.specs.declared.adoption.NextObject.{NextObject}
 use Rattle.object_recovery.specs.declared.adoption.NextObject.TheVariants as next_object
 use Rattle.object_recovery.specs.declared.judging.Reached.{Reached}
 use Rattle.object_recovery.specs.declared.judging.ObjectRefusal.{ObjectRefusal}
-use Rattle.object_recovery.specs.declared.judging.ObjectRefusal.TheVariants as refusals
 use Rattle.object_recovery.specs.declared.error.RecoverError.{RecoverError}
 use Rattle.object_recovery.specs.Checkpoints.{expected_of, ReadCheckpoint, IsStoredCheckpoint, IsNewest}
 use Rattle.object_recovery.specs.Faults.{IsNoAnswer, of_refusal, refusal_or_missing, ends_by_fault}
@@ -40,23 +39,32 @@ use Rattle.object_recovery.specs.Table.{HasTableFrom, KnowsObjects}
 
 -- ---- the next object
 
--- an object was read as one that holds entries, with these rows and this end
-pub record IsReadAsData (receipt : ReceiptState) (expected : Expected) (rows : List DataRow) (end : ℕ) : Type 0 where
+-- the rows of an object that may come past the newest checkpoint: a data object's or a copy's
+abbrev pub adoptable_rows : Rows → Option SealedRows
+adoptable_rows (rows_of.Data list) = Some (sealed_rows.Data list)
+adoptable_rows (rows_of.Copy list) = Some (sealed_rows.Copy list)
+adoptable_rows rows_of.Checkpoint = None
+
+-- an object was read as one that may be adopted, with these rows and this end
+pub record IsReadToAdopt (receipt : ReceiptState) (expected : Expected) (rows : SealedRows) (end : ℕ) : Type 0 where
   pub header : Header
-  pub list : Vec DataRow
-  pub items : list.items ≡ rows
-  pub read : IsReadAs receipt expected header (rows_of.Data list)
+  pub rows_read : Rows
+  pub adoptable : adoptable_rows rows_read ≡ Some rows
+  pub read : IsReadAs receipt expected header rows_read
   pub end_is : header.end_seq ≡ end
 
--- why the object with these bytes is not adopted: the list takes none of this number, or it is bad, or it holds no entries
+-- why the object with these bytes is refused: it is bad, or it is a checkpoint
+abbrev pub IsWhyRefused : (bytes : List ℕ) (size : ℕ) → Expected → BadObject → Type 0
+IsWhyRefused bytes size expected reason =
+    IsObjectRefusedAs bytes size expected reason
+    ⊎ ((header : Header) × IsObject bytes size expected header rows_of.Checkpoint)
+
+-- why it is not adopted: the list takes none of this number, or it is refused
 abbrev pub IsWhyLeft : (bytes : List ℕ) (size : ℕ) → Expected → Option ObjectRefusal → Type 0
 IsWhyLeft bytes size expected None = (2 ^ 64 - 1 ≤ expected.number) × (header : Header) × (rows : Rows)
     × IsObject bytes size expected header rows
-IsWhyLeft bytes size expected (Some (refusals.Bad number reason)) = (number ≡ expected.number)
-    × IsObjectRefusedAs bytes size expected reason
-IsWhyLeft bytes size expected (Some (refusals.NotData number)) =
-    (number ≡ expected.number) × (header : Header) × (rows : Rows) × IsObject bytes size expected header rows
-    × (header.kind ≡ kinds.Data → ⊥)
+IsWhyLeft bytes size expected (Some refusal) =
+    (refusal.number ≡ expected.number) × IsWhyRefused bytes size expected refusal.reason
 
 -- it is not, and was judged so
 pub record IsNotAdopted (bytes : List ℕ) (size : ℕ) (expected : Expected) (reached : Reached) : Type 0 where
@@ -67,22 +75,22 @@ pub record IsNotAdopted (bytes : List ℕ) (size : ℕ) (expected : Expected) (r
 
 -- the expected object was read
 abbrev pub IsNextRead : ReceiptState → Expected → NextObject → Type 0
-IsNextRead receipt expected (next_object.Data object) = IsReadAsData receipt expected object.rows.items object.end
+IsNextRead receipt expected (next_object.Whole object) = IsReadToAdopt receipt expected object.rows object.end
     × (expected.number < 2 ^ 64 - 1)
 IsNextRead receipt expected (next_object.Left reached) =
     IfSome receipt.told (λ told. IsNotAdopted told receipt.size expected reached)
 
 -- ---- in the store
 
--- the store has the expected object, which holds entries, with these rows and this end, and the receipt is for it
-pub record IsStoredAs (objects : Objects) (expected : Expected) (rows : List DataRow) (end : ℕ) (receipt : ReceiptState) :
+-- the store has the expected object, which may be adopted, with these rows and this end, and the receipt is for it
+pub record IsStoredAs (objects : Objects) (expected : Expected) (rows : SealedRows) (end : ℕ) (receipt : ReceiptState) :
     Type 0 where
   pub bytes : List ℕ
   pub present : found objects (object_name expected expected.number) ≡ Some bytes
   pub header : Header
-  pub list : Vec DataRow
-  pub items : list.items ≡ rows
-  pub is_object : IsObject bytes (length bytes) expected header (rows_of.Data list)
+  pub rows_read : Rows
+  pub adoptable : adoptable_rows rows_read ≡ Some rows
+  pub is_object : IsObject bytes (length bytes) expected header rows_read
   pub end_is : header.end_seq ≡ end
   pub receipt_is : IsReceiptFor bytes receipt
 
@@ -99,12 +107,12 @@ HasNoNext objects log = log.uploads.window.last + 1 < 2 ^ 64
 
 -- the object of the next number was read and adopted; where receipts tell, it is the one that the store has
 pub record AdoptsNext (Tells : Type 0) (objects : Option Objects) (old new : ObjLogState) : Type 0 where
-  pub rows : List DataRow
+  pub rows : SealedRows
   pub end : ℕ
   pub receipt : ReceiptState
   pub order : IsUploads old.uploads
   pub named : old.uploads.window.last + 1 < 2 ^ 64
-  pub read : IsReadAsData receipt (next_of old) rows end
+  pub read : IsReadToAdopt receipt (next_of old) rows end
   pub adopted : HasAdoptedObject rows end receipt old new
   pub stored : Tells → IfSome objects (λ objects. IsStoredAs objects (next_of old) rows end receipt)
 

@@ -3,7 +3,6 @@ use Rattle.std.specs.Prelude.{ℕ, Bool, true, false, Option, Some, None, Result
 use Rattle.lsvd_objstore.specs.declared.error.StoreError.{StoreError}
 use Rattle.lsvd_objstore.specs.declared.error.StoreError.TheVariants as store
 use Rattle.object_recovery.specs.declared.judging.ObjectRefusal.{ObjectRefusal}
-use Rattle.object_recovery.specs.declared.judging.ObjectRefusal.TheVariants.{Bad, NotData}
 use Rattle.object_recovery.specs.declared.error.RecoverError.{RecoverError}
 use Rattle.object_recovery.specs.declared.error.RecoverError.TheVariants as errors
 
@@ -14,8 +13,7 @@ of_store store.OutOfMemory = errors.OutOfMemory
 
 -- what a refusal is to the caller
 abbrev pub of_refusal : ObjectRefusal → RecoverError
-of_refusal (Bad number reason) = errors.BadObject number reason
-of_refusal (NotData number) = errors.NotData number
+of_refusal refusal = errors.BadObject refusal.number refusal.reason
 
 -- the error of a refusal, or else that of a missing object
 abbrev pub refusal_or_missing : (missing : ℕ) → Option ObjectRefusal → RecoverError
@@ -26,7 +24,6 @@ refusal_or_missing missing (Some refusal) = of_refusal refusal
 abbrev pub is_store_fault : RecoverError → Bool
 is_store_fault errors.NoCheckpoint = false
 is_store_fault (errors.BadObject number reason) = false
-is_store_fault (errors.NotData number) = false
 is_store_fault (errors.MissingObject number) = false
 is_store_fault errors.StoreFault = true
 is_store_fault errors.OutOfMemory = false
@@ -39,7 +36,6 @@ ends_by_fault (Err error) = is_store_fault error
 abbrev pub IsNoAnswer : RecoverError → Type 0
 IsNoAnswer errors.NoCheckpoint = ⊥
 IsNoAnswer (errors.BadObject number reason) = ⊥
-IsNoAnswer (errors.NotData number) = ⊥
 IsNoAnswer (errors.MissingObject number) = ⊥
 IsNoAnswer errors.StoreFault = Unit {0}
 IsNoAnswer errors.OutOfMemory = Unit {0}

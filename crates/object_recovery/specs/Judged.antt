@@ -13,9 +13,8 @@ use Rattle.object_recovery.specs.declared.reading.ReadObject.TheVariants as read
 use Rattle.object_recovery.specs.declared.judging.Judged.{Judged}
 use Rattle.object_recovery.specs.declared.judging.Reached.{Reached}
 use Rattle.object_recovery.specs.declared.judging.ObjectRefusal.{ObjectRefusal}
-use Rattle.object_recovery.specs.declared.judging.ObjectRefusal.TheVariants as refusals
 use Rattle.object_recovery.specs.Checkpoints.{IsNewest}
-use Rattle.object_recovery.specs.Judging.{IsEndOf, HasEnd, IsBadObject, AreGood, IsNotData, HaveLanded}
+use Rattle.object_recovery.specs.Judging.{IsEndOf, HasEnd, IsBadObject, AreGood, HaveLanded}
 
 -- ---- one object
 
@@ -45,21 +44,18 @@ IsJudgement objects expected (Some judged) = IsJudged objects expected judged
 -- why objects are refused where the one of a number that is greater than theirs is bad for this reason, or is not
 abbrev pub refused_with : (number : ℕ) → Option BadObject → Option ObjectRefusal → Option ObjectRefusal
 refused_with number None before = before
-refused_with number (Some reason) before = Some (refusals.Bad number reason)
+refused_with number (Some reason) before = Some (record { number = number; reason = reason })
 
 -- what is refused stays so
 abbrev pub StaysRefused : (old new : Option ObjectRefusal) → Type 0
 StaysRefused old new = new ≡ None → old ≡ None
 
--- The objects of the store with such numbers are refused so: for the greatest of them that is bad, or where none is for one
--- without entries.
+-- the objects of the store with such numbers are refused so: for the greatest of them that is bad
 abbrev pub IsVerdict : Expected → Objects → (last : ℕ) → (Such : ℕ → Type 0) → Option ObjectRefusal → Type 0
 IsVerdict volume objects last Such None = AreGood volume objects last Such
-IsVerdict volume objects last Such (Some (refusals.Bad number reason)) =
-    Such number × IsBadObject volume objects last number reason
-    × AreGood volume objects last (λ other. Such other × (number < other))
-IsVerdict volume objects last Such (Some (refusals.NotData number)) =
-    Such number × IsNotData volume objects last number × AreGood volume objects last Such
+IsVerdict volume objects last Such (Some refusal) =
+    Such refusal.number × IsBadObject volume objects last refusal.number refusal.reason
+    × AreGood volume objects last (λ other. Such other × (refusal.number < other))
 
 -- Those past the newest checkpoint, which has this number, were judged, up to one that was reached, wherever the first missing
 -- number is after that.

@@ -3,7 +3,6 @@ use Rattle.std.specs.Prelude.{◌≡◌, ℕ, ◌+◌, ◌-◌, ◌^◌, ◌<◌
 use Rattle.lsvd_objstore.specs.Objects.{Objects, found}
 use Rattle.object_format.specs.declared.expected.Expected.{Expected}
 use Rattle.object_format.specs.declared.header.Header.{Header}
-use Rattle.object_format.specs.declared.kind.Kind.TheVariants.{Data}
 use Rattle.object_format.specs.declared.reason.BadObject.{BadObject}
 use Rattle.object_format.specs.declared.rows.Rows.{Rows}
 use Rattle.object_format.specs.Object.{IsObject}
@@ -84,17 +83,6 @@ pub record IsGreatestBad (volume : Expected) (objects : Objects) (last past numb
   pub after : past < number
   pub bad : IsBadObject volume objects last number reason
   pub greater : AreGood volume objects last (λ other. number < other)
-
--- An object before the first missing number is of the grammar, wherever it begins, and holds no entries.
-pub record IsNotData (volume : Expected) (objects : Objects) (last number : ℕ) : Type 0 where
-  pub before : number ≤ last
-  pub bytes : List ℕ
-  pub present : found objects (object_name volume number) ≡ Some bytes
-  pub end_before : Option ℕ
-  pub header : Header
-  pub rows : Rows
-  pub is_object : IsObject bytes (length bytes) (expected_after volume number end_before) header rows
-  pub other : header.kind ≡ Data → ⊥
 
 -- ---- which are judged
 

@@ -1,14 +1,10 @@
 -- Contract: where the places in the map of a recovered list lie.
-use Rattle.std.specs.Prelude.{◌≡◌, ℕ, ◌+◌, ◌*◌, ◌<◌, ◌≤◌, Option, Some, None}
+use Rattle.std.specs.Prelude.{◌≡◌, ℕ, ◌<◌, Some}
 use Rattle.volume_maps.specs.declared.place.ObjectPlace.{ObjectPlace}
 use Rattle.volume_maps.specs.Maps.{settled_at}
-use Rattle.object_uploads.specs.State.{StoredObject, QueueState}
+use Rattle.object_uploads.specs.State.{QueueState}
 use Rattle.object_uploads.specs.Queue.{stored_at}
-
--- an object is in the store, and a sector of its payload lies inside it
-abbrev pub IsInsideObject : Option StoredObject → (at : ℕ) → Type 0
-IsInsideObject None at = ⊥
-IsInsideObject (Some object) at = 512 * (object.front + at + 1) ≤ object.receipt.size
+use Rattle.object_uploads.specs.Collection.{IsInsideObject}
 
 -- Each sector that the objects' map has is one of the volume's, and stands in an object of the volume's own that was adopted,
 -- inside it.

@@ -43,7 +43,6 @@ abbrev pub IsWhyNotRead : ReceiptState → Expected → RecoverError → Type 0
 IsWhyNotRead receipt expected errors.NoCheckpoint = ⊥
 IsWhyNotRead receipt expected (errors.BadObject number reason) =
     (number ≡ expected.number) × IfSome receipt.told (λ told. IsObjectRefusedAs told receipt.size expected reason)
-IsWhyNotRead receipt expected (errors.NotData number) = ⊥
 IsWhyNotRead receipt expected (errors.MissingObject number) = ⊥
 IsWhyNotRead receipt expected errors.StoreFault = Unit {0}
 IsWhyNotRead receipt expected errors.OutOfMemory = Unit {0}
@@ -53,7 +52,6 @@ abbrev pub HasNoHeader : ReceiptState → Expected → RecoverError → Type 0
 HasNoHeader receipt expected errors.NoCheckpoint = ⊥
 HasNoHeader receipt expected (errors.BadObject number reason) =
     IfSome receipt.told (λ told. (header : Header) → IsObjectHeader told receipt.size expected header → ⊥)
-HasNoHeader receipt expected (errors.NotData number) = ⊥
 HasNoHeader receipt expected (errors.MissingObject number) = ⊥
 HasNoHeader receipt expected errors.StoreFault = Unit {0}
 HasNoHeader receipt expected errors.OutOfMemory = Unit {0}

@@ -9,7 +9,7 @@ use Rattle.lsvd_names.specs.declared.name.ObjName.{ObjName}
 use Rattle.lsvd_objstore.specs.Objects.{Objects, found}
 use Rattle.object_format.specs.declared.expected.Expected.{Expected}
 use Rattle.object_format.specs.declared.reason.BadObject.{BadObject}
-use Rattle.object_stream.specs.declared.object.Content.TheVariants.{Data}
+use Rattle.object_stream.specs.declared.object.Content.TheVariants.{Checkpoint}
 use Rattle.object_stream.specs.declared.object.StreamObject.{StreamObject}
 use Rattle.object_stream.specs.Landed.{Numbers, IsFirstMissing}
 use Rattle.object_stream.specs.Replay.{object_name}
@@ -26,7 +26,7 @@ use Rattle.object_recovery.specs.declared.error.RecoverError.{RecoverError}
 use Rattle.object_recovery.specs.declared.error.RecoverError.TheVariants as errors
 use Rattle.object_recovery.specs.Checkpoints.{IsNoCheckpoint, IsNewest}
 use Rattle.object_recovery.specs.Missing.{IsMissing}
-use Rattle.object_recovery.specs.Judging.{AreGood, IsGreatestBad, IsNotData, IsRun}
+use Rattle.object_recovery.specs.Judging.{AreGood, IsGreatestBad, IsRun}
 use Rattle.object_recovery.specs.Removal.{Removes, IsPast}
 
 -- ---- streams
@@ -39,14 +39,14 @@ up_to_object number stream = record stream {
 }
 
 -- A store has a stream of a volume from its newest checkpoint on, over this image, up to the object of a number: that before the
--- first missing one. Each object past the checkpoint up to there holds entries, and the entries lie inside the volume.
+-- first missing one. No object past the checkpoint up to there is one too, and the entries lie inside the volume.
 pub record HasDataUpTo (volume : Expected) (uuid_at : ℕ → Option (List ℕ)) (objects : Objects) (stream : Stream)
     (opening : Image) (number : ℕ) : Type 0 where
   pub own : uuid_at 0 ≡ Some volume.uuid
   pub valid : IsStream stream
   pub sectors : length opening ≡ volume.sectors
   pub stored : HasStreamUpTo volume uuid_at objects stream opening number
-  pub hold_data : All (λ (object : StreamObject). object.content ≡ Data) (objects_to stream number)
+  pub no_checkpoint : All (λ (object : StreamObject). object.content ≡ Checkpoint → ⊥) (objects_to stream number)
   pub inside : All (EndsBy volume.sectors) stream.entries
 
 -- ---- lists
@@ -146,12 +146,6 @@ abbrev pub IsBadThere : (volume : Expected) → Objects → (number : ℕ) → B
 IsBadThere volume objects number reason =
     (base : ℕ) × (last : ℕ) × IsRun volume objects base last × IsGreatestBad volume objects last base number reason
 
--- all are good, and this one, before the first missing number, holds no entries
-abbrev pub IsNotDataThere : (volume : Expected) → Objects → (number : ℕ) → Type 0
-IsNotDataThere volume objects number =
-    (base : ℕ) × (last : ℕ) × IsRun volume objects base last × (base < number) × IsNotData volume objects last number
-    × AreGood volume objects last (λ other. base < other)
-
 -- all are good, and the newest checkpoint maps a sector to this one, which does not have it there
 pub record IsMissingThere (volume : Expected) (objects : Objects) (number : ℕ) : Type 0 where
   pub base : ℕ
@@ -166,7 +160,6 @@ pub record IsMissingThere (volume : Expected) (objects : Objects) (number : ℕ)
 abbrev pub IsWhyObjectsRefused : (volume : Expected) → Objects → RecoverError → Type 0
 IsWhyObjectsRefused volume objects errors.NoCheckpoint = (number : ℕ) → IsNoCheckpoint volume objects number
 IsWhyObjectsRefused volume objects (errors.BadObject number reason) = IsBadThere volume objects number reason
-IsWhyObjectsRefused volume objects (errors.NotData number) = IsNotDataThere volume objects number
 IsWhyObjectsRefused volume objects (errors.MissingObject number) = IsMissingThere volume objects number
 IsWhyObjectsRefused volume objects errors.StoreFault = Unit {0}
 IsWhyObjectsRefused volume objects errors.OutOfMemory = Unit {0}
@@ -175,7 +168,6 @@ IsWhyObjectsRefused volume objects errors.OutOfMemory = Unit {0}
 abbrev pub IsRefusal : RecoverError → Type 0
 IsRefusal errors.NoCheckpoint = Unit {0}
 IsRefusal (errors.BadObject number reason) = Unit {0}
-IsRefusal (errors.NotData number) = Unit {0}
 IsRefusal (errors.MissingObject number) = Unit {0}
 IsRefusal errors.StoreFault = ⊥
 IsRefusal errors.OutOfMemory = ⊥

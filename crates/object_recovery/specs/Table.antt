@@ -23,18 +23,36 @@ use Rattle.volume_maps.specs.Maps.{settled_at}
 use Rattle.object_uploads.specs.State.{QueueState}
 use Rattle.object_uploads.specs.Checkpoint.{mapped_place}
 
--- The table of a list that begins with a checkpoint of this number: that is its newest, no removal is out, nothing is pinned, and
--- as long as no object came after the checkpoint, it passed just those unmapped that have no live sector.
+-- The table of a list that begins with a checkpoint of this number: that is its newest, no removal is out, nothing is pinned, no
+-- plan of a copy takes sectors, and as long as no object came after the checkpoint, it passed just those unmapped that have no
+-- live sector.
 pub record HasTableFrom (checkpoint : ℕ) (queue : QueueState) : Type 0 where
   pub checkpoint_is : queue.maps.objects.checkpoint ≡ checkpoint
   pub removal : queue.removal ≡ None
   pub unpinned : All (λ (row : ObjectRow). row.pins ≡ 0) queue.maps.objects.rows
+  pub not_copied : All (λ (row : ObjectRow). row.is_copied ≡ false) queue.maps.objects.rows
   pub exact : queue.frontier ≡ checkpoint
       → All (λ (row : ObjectRow). row.number < checkpoint → row.is_unmapped ≡ nat_eq row.live 0) queue.maps.objects.rows
 
+-- The object of a number is in the store: its header is that of a data object or a copy, with a payload of so many sectors.
+pub record HasPayloadThere (volume : Expected) (objects : Objects) (number payload : ℕ) : Type 0 where
+  pub bytes : List ℕ
+  pub present : found objects (object_name volume number) ≡ Some bytes
+  pub header : Header
+  pub is_header : IsObjectHeader bytes (length bytes) (expected_alone volume number) header
+  pub no_checkpoint : header.kind ≡ kinds.Checkpoint → ⊥
+  pub payload_is : header.payload ≡ payload
+
+-- so is each object that a list's map has a sector in, with the payload that the table says
+abbrev pub ArePayloadsThere : (volume : Expected) → Objects → QueueState → Type 0
+ArePayloadsThere volume objects queue =
+    (k : ℕ) (place : ObjectPlace) → settled_at queue.maps k ≡ Some place
+    → IfSome (row_of place.number queue.maps.objects.rows) (λ row.
+    HasPayloadThere volume objects place.number row.payload)
+
 -- The table has just the objects that the store has up to the frontier, and says of each whether the newest checkpoint of the
 -- store, which has this number, came after it and does not map it. The list's map has the sectors of objects up to that
--- checkpoint where its rows say.
+-- checkpoint where its rows say. Of each object that the map has a sector in, the table says the payload.
 pub record KnowsObjects (volume : Expected) (objects : Objects) (base : ℕ) (queue : QueueState) : Type 0 where
   pub known : (number : ℕ) → 1 ≤ number → number ≤ queue.frontier
       → is_some (row_of number queue.maps.objects.rows) ≡ landed_in objects volume number
@@ -44,6 +62,7 @@ pub record KnowsObjects (volume : Expected) (objects : Objects) (base : ℕ) (qu
   pub places : (end : ℕ) (owned : Owners) → (checkpoint : IsCheckpointOf volume objects base end owned)
       → (k : ℕ) (place : ObjectPlace) → settled_at queue.maps k ≡ Some place → place.number ≤ base
       → option_map mapped_place (place_at stored_on checkpoint.rows k) ≡ Some place
+  pub payloads : ArePayloadsThere volume objects queue
 
 -- The object of a place is in the store: its header is that of a data object or a copy, whose payload has such a place.
 pub record IsNamedThere (volume : Expected) (objects : Objects) (place : StoredPlace) : Type 0 where

@@ -1,4 +1,4 @@
-ghost use Rattle.std.specs.Prelude.{◌≡◌, ◌+◌, ◌^◌, ◌<◌, ◌≤◌, IsTrue, IfOk, IfErr, IfSome, OnOk};
+ghost use Rattle.std.specs.Prelude.{◌≡◌, ◌+◌, ◌^◌, ◌<◌, ◌≤◌, None, IsTrue, IfOk, IfErr, IfSome, OnOk};
 ghost use Rattle.lsvd_base.specs.Limits.{is_within_limits};
 ghost use Rattle.lsvd_objstore.specs.Store.{StoreState, ReceiptState, OnlyCounts};
 ghost use Rattle.lsvd_fault.specs.Faults.{Counts};
@@ -10,15 +10,17 @@ ghost use Rattle.stopped_volume.specs.Store.{TellsBytes};
 ghost use Rattle.object_recovery.specs.Places.{HasPlacesInside};
 ghost use Rattle.object_recovery.specs.Recovery.{IsListUpTo, KeepsStreams};
 ghost use Rattle.object_recovery.specs.Adoption.{IsNextRead, ComesNext, KeepsGood, KeepsKnown, KeepsTable};
-ghost use Rattle.object_recovery.specs.Adoption.{HasEndedAt};
+ghost use Rattle.object_recovery.specs.Adoption.{HasEndedAt, adoptable_rows};
+ghost use Rattle.object_recovery.specs.Judged.{refused_with};
 
 use crate::error::RecoverError;
-use crate::judging::{ObjectRefusal, Reached};
+use crate::judging::{Reached, refused_with};
 use crate::naming::object_name;
 use crate::reading::{ReadObject, read_object};
 use lsvd_objstore::{Receipt, Store};
 use obj_log::ObjLog;
-use object_format::{DataRow, Expected, Rows};
+use object_format::{BadObject, Expected, Rows};
+use object_uploads::SealedRows;
 use std::alloc::Global;
 
 // What comes of the next number of a list.
@@ -35,16 +37,16 @@ enum Next {
 // The object of the next number.
 #[derive(Drop)]
 enum NextObject {
-    // It holds entries.
-    Data(DataObject),
+    // It may be adopted.
+    Whole(WholeObject),
     // It is not adopted, and was judged.
     Left(Reached),
 }
 
-// A data object that was read.
+// A data object or a copy that was read.
 #[derive(Drop)]
-struct DataObject {
-    rows: Vec<DataRow>,
+struct WholeObject {
+    rows: SealedRows,
     end: u64,
 }
 
@@ -117,17 +119,16 @@ fn adopt_next<S: Store>(
             drop(receipt);
             Ok(Next::Left(reached))
         }
-        NextObject::Data(object) => {
-            let adopted = log.adopt(alloc, object.rows.as_slice(), object.end, receipt);
-            drop(object);
-            adopted?;
+        NextObject::Whole(object) => {
+            log.adopt(alloc, object.rows, object.end, receipt)?;
             Ok(Next::Adopted)
         }
     }
 }
 
-// Reads the expected object, which is to hold entries. It is not adopted where it is refused, where it holds
-// none, and where it has the greatest number of all.
+// Reads the expected object, which is to be a data object or a copy. It is not adopted where it is refused,
+// and where it has the greatest number of all. A checkpoint comes only where the store changed since the
+// newest one was found: it is none of the kinds that are due there, and refused.
 fn read_next<S: Store>(
     alloc: Global,
     store: &mut S,
@@ -141,27 +142,38 @@ fn read_next<S: Store>(
 {
     let number = expected.number;
     match read_object(alloc, store, receipt, expected)? {
-        ReadObject::Bad { reason, end } => Ok(left(
-            number,
-            end,
-            Some(ObjectRefusal::Bad { number, reason }),
-        )),
-        ReadObject::Whole { rows, end } => match rows {
-            Rows::Data(rows) if number < u64::MAX => Ok(NextObject::Data(DataObject { rows, end })),
-            Rows::Data(_) => Ok(left(number, Some(end), None)),
-            _ => Ok(left(number, Some(end), Some(ObjectRefusal::NotData { number }))),
+        ReadObject::Bad { reason, end } => Ok(left(number, end, Some(reason))),
+        ReadObject::Whole { rows, end } => match sealed_rows(rows) {
+            None => Ok(left(number, Some(end), Some(BadObject::Kind))),
+            Some(_) if number == u64::MAX => Ok(left(number, Some(end), None)),
+            Some(rows) => Ok(NextObject::Whole(WholeObject { rows, end })),
         },
     }
 }
 
-// An object that is not adopted.
-fn left(number: u64, end: Option<u64>, refused: Option<ObjectRefusal>) -> NextObject
-    ensures { result ≡ NextObject.Left (record { number = number; end = end; refused = refused }) }
+// The rows of an object, where it may come past the newest checkpoint: a data object's or a copy's.
+fn sealed_rows(rows: Rows) -> Option<SealedRows>
+    ensures { result ≡ adoptable_rows rows }
+{
+    match rows {
+        Rows::Data(rows) => Some(SealedRows::Data(rows)),
+        Rows::Copy(rows) => Some(SealedRows::Copy(rows)),
+        Rows::Checkpoint => None,
+    }
+}
+
+// An object that is not adopted: it is refused for this reason, or its number is too great.
+fn left(number: u64, end: Option<u64>, bad: Option<BadObject>) -> NextObject
+    ensures { result ≡ NextObject.Left (record {
+      number = number;
+      end = end;
+      refused = refused_with number bad None;
+    }) }
 {
     NextObject::Left(Reached {
         number,
         end,
-        refused,
+        refused: refused_with(number, bad, None),
     })
 }
 

@@ -21,10 +21,6 @@ pub enum RecoverError {
     /// end before is not known.
     #[error("bad object {number}: {reason}")]
     BadObject { number: u64, reason: BadObject },
-    /// No object is bad, and the one of this number, past the newest checkpoint and before the first missing
-    /// number, holds no entries: it is a copy, which is not recovered yet.
-    #[error("object {number} holds no entries")]
-    NotData { number: u64 },
     /// No object is bad, and the newest checkpoint maps a sector to the one of this number, which does not
     /// have it there: it is absent, is no data object or copy of the grammar, or its payload has no such
     /// place.
@@ -42,9 +38,9 @@ impl From<ObjectRefusal> for RecoverError {
     ghost from_gives = { λ refusal e. e ≡ of_refusal refusal };
 
     fn from(refusal: ObjectRefusal) -> RecoverError {
-        match refusal {
-            ObjectRefusal::Bad { number, reason } => RecoverError::BadObject { number, reason },
-            ObjectRefusal::NotData { number } => RecoverError::NotData { number },
+        RecoverError::BadObject {
+            number: refusal.number,
+            reason: refusal.reason,
         }
     }
 }

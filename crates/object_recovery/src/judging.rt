@@ -17,13 +17,13 @@ use object_format::{BadObject, Expected};
 use std::alloc::Global;
 use uuid::Uuid;
 
-/// Why the objects of a volume are refused.
+/// Why the objects of a volume are refused: one of them is bad.
 #[derive(Clone, Copy, Drop)]
-pub(crate) enum ObjectRefusal {
-    /// The object of this number is bad.
-    Bad { number: u64, reason: BadObject },
-    /// The object of this number holds no entries.
-    NotData { number: u64 },
+pub(crate) struct ObjectRefusal {
+    /// Its number.
+    pub(crate) number: u64,
+    /// The first reason for which it is bad.
+    pub(crate) reason: BadObject,
 }
 
 /// How far the objects of a volume were judged: each from the newest checkpoint on, up to one, and none of
@@ -34,8 +34,7 @@ pub(crate) struct Reached {
     pub(crate) number: u64,
     /// Its end, where it is of the grammar by itself.
     pub(crate) end: Option<u64>,
-    /// Why they are refused, if they are: for the greatest number that is bad, and else for the first without
-    /// entries.
+    /// Why they are refused, if they are: for the greatest number that is bad.
     pub(crate) refused: Option<ObjectRefusal>,
 }
 
@@ -160,9 +159,9 @@ fn judge_alone<S: Store>(
     }
 }
 
-// Why objects are refused where the one of a number that is greater than theirs is bad for this reason, or is
-// not.
-fn refused_with(
+/// Why objects are refused where the one of a number that is greater than theirs is bad for this reason, or
+/// is not.
+pub(crate) fn refused_with(
     number: u64,
     bad: Option<BadObject>,
     before: Option<ObjectRefusal>,
@@ -170,7 +169,7 @@ fn refused_with(
     ensures { result ≡ refused_with number bad before }
 {
     match bad {
-        Some(reason) => Some(ObjectRefusal::Bad { number, reason }),
+        Some(reason) => Some(ObjectRefusal { number, reason }),
         None => before,
     }
 }

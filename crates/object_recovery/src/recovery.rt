@@ -44,8 +44,6 @@ use uuid::Uuid;
 /// - `BadObject`: an object past the newest checkpoint is bad. That of the greatest number is told, with the
 ///   first reason for it. Up to the first missing number an object is to go on at the end of the one before
 ///   it, where that one is of the grammar by itself; past that number it is to be of the grammar by itself.
-/// - `NotData`: none is bad, and the object of this number, before the first missing number, holds no
-///   entries.
 /// - `MissingObject`: none is bad, and the newest checkpoint maps a sector to the object of this number,
 ///   which does not have it there.
 /// - `StoreFault`: a call of the store failed, and was counted by it.

@@ -5,3 +5,4 @@ pub mod ReplayLemmas
 pub mod ValueLemmas
 pub mod PlainLemmas
 pub mod OneLemmas
+pub mod StillLemmas

@@ -1,5 +1,6 @@
 -- The replay of the objects of a stream by what a store has of them.
 use Rattle.std.proofs.Common.{◌≡◌, ℕ, ◌+◌, ◌-◌, ◌*◌, Option, List, [], ◌∷◌, length, take, drop, refl, sym, ◌∙◌, ap, subst}
+use mathlib.Core.Path.{fun_ext}
 use Rattle.lsvd_base.specs.declared.entry.Entry.{Entry}
 use Rattle.lsvd_objstore.specs.Objects.{Objects}
 use Rattle.object_format.specs.declared.rows.Rows.{Rows}
@@ -21,7 +22,7 @@ use Rattle.object_stream.specs.Laws.{StoredObjectsReplay, StoredObjectsAreReplay
 -- the owners after an object are by its rows what they are by its content
 by_rows : (objects : Objects) (uuid_at : ℕ → Option (List ℕ)) (number : ℕ) (content : Content) (entries : List Entry)
     (list other : Rows)
-    (payload : List ℕ) (before : Owners) (k : ℕ) → HasContent objects uuid_at content entries list payload
+    (payload : List ℕ) (before : Owners) (k : ℕ) → HasContent objects uuid_at before content entries list payload
     → AreSameRows list other
     → after_rows number other payload before k ≡ after_object number content entries before k
 by_rows objects uuid_at number Data entries (rows.Data list) (rows.Data other) payload before k has same =
@@ -88,15 +89,14 @@ replay_as_stream objects uuid_at volume number end last_end entries before after
     same_parts.is_object parts.is_object in
     let same_payload : is.payload ≡ payload =
     same_parts.payload_is ∙ ap (λ h. drop (512 * front_sectors h) bytes) one.0 ∙ sym parts.payload_is in
-    let Q : List ℕ → Type 0 = λ p. HasContent objects uuid_at object.content part is.rows_of p in
-    let content : HasContent objects uuid_at object.content part is.rows_of payload = subst Q same_payload is.content in
+    let Q : List ℕ → Type 0 = λ p. HasContent objects uuid_at before object.content part is.rows_of p in
+    let content : HasContent objects uuid_at before object.content part is.rows_of payload = subst Q same_payload is.content in
     let one_step = λ (k : ℕ). by_rows objects uuid_at (number + 1) object.content part is.rows_of list_rows payload before k
     content one.1 in
     let same_end : header.end_seq ≡ object.end = sym (ap (λ h. h.end_seq) one.0) ∙ is.ends in
-    let S : ℕ → Type 0 = λ e. Replays objects volume (number + 1) e by (length list) last_end after_them in
-    let rest = replay_as_stream objects uuid_at volume (number + 1) object.end last_end later by after_them list wide stored.1
-    (subst S same_end replay.6) in
-    (λ k. rest.0 k ∙ same_after (number + 1) object.end later by first list one_step k, rest.1)
+    let S : ℕ → Owners → Type 0 = λ e owners. Replays objects volume (number + 1) e owners (length list) last_end after_them in
+    replay_as_stream objects uuid_at volume (number + 1) object.end last_end later first after_them list wide stored.1
+    (subst (S object.end) (fun_ext one_step) (subst (λ e. S e by) same_end replay.6))
 
 pub stored_are_replayed : StoredObjectsAreReplayed
 stored_are_replayed objects uuid_at volume number end entries before after_them [] stored same = (refl, same)
@@ -108,7 +108,14 @@ stored_are_replayed objects uuid_at volume number end entries before after_them 
     let by = after_rows (number + 1) is.rows_of is.payload before in
     let one_step = λ (k : ℕ). by_rows objects uuid_at (number + 1) object.content part is.rows_of is.rows_of is.payload before k
     is.content (same_rows is.rows_of) in
-    let S : ℕ → Type 0 = λ e. Replays objects volume (number + 1) e by (length list) (end_after object.end list) after_them in
-    let rest = stored_are_replayed objects uuid_at volume (number + 1) object.end later by after_them list stored.1
-    (λ k. same k ∙ sym (same_after (number + 1) object.end later by first list one_step k)) in
-    (is.bytes, is.header, is.rows_of, is.payload, is.present, is.parts, subst S (sym is.ends) rest)
+    let S : ℕ → Owners → Type 0 =
+    λ e owners. Replays objects volume (number + 1) e owners (length list) (end_after object.end list) after_them in
+    let rest = stored_are_replayed objects uuid_at volume (number + 1) object.end later first after_them list stored.1 same in (
+      is.bytes,
+      is.header,
+      is.rows_of,
+      is.payload,
+      is.present,
+      is.parts,
+      subst (λ e. S e by) (sym is.ends) (subst (S object.end) (sym (fun_ext one_step)) rest),
+    )

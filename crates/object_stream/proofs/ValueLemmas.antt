@@ -61,8 +61,8 @@ module _ (objects : Objects) (uuid_at : ℕ → Option (List ℕ)) (volume : Exp
     (wide : volume.sectors < 2 ^ 64) where
   -- ---- what an object has that is in the store
 
-  module _ (number end : ℕ) (object : StreamObject) (part : List Entry)
-      (is : IsObjectStored objects uuid_at (expected_at volume number end) object part) where
+  module _ (number end : ℕ) (object : StreamObject) (part : List Entry) (before : Owners)
+      (is : IsObjectStored objects uuid_at (expected_at volume number end) before object part) where
     has_sector : (k : ℕ) (sector : List ℕ) → sector_in is.rows_of is.payload k ≡ Some sector
         → HasSector objects uuid_at (record { level = 0; number = number }) k sector
     has_sector k sector has = record {
@@ -80,18 +80,22 @@ module _ (objects : Objects) (uuid_at : ℕ → Option (List ℕ)) (volume : Exp
     }
 
   -- what the rows of a data object have is what its entries put
-  data_sector : (part : List Entry) (list : Rows) (payload : List ℕ) (k : ℕ) → HasContent objects uuid_at Data part list payload
+  data_sector : (before : Owners) (part : List Entry) (list : Rows) (payload : List ℕ) (k : ℕ)
+      → HasContent objects uuid_at before Data part list payload
       → sector_in list payload k ≡ sector_put (change_at part k)
-  data_sector part (rows.Data list) payload k has = ap sector_put (has k)
-  data_sector part (rows.Copy list) payload k has = absurd has
-  data_sector part rows.Checkpoint payload k has = absurd has
+  data_sector before part (rows.Data list) payload k has = ap sector_put (has k)
+  data_sector before part (rows.Copy list) payload k has = absurd has
+  data_sector before part rows.Checkpoint payload k has = absurd has
 
-  copy_sector : (pairs : _) (part : List Entry) (list : Rows) (payload : List ℕ) (k source : ℕ) (sector : List ℕ)
-      → HasContent objects uuid_at (Copy pairs) part list payload → source_in pairs k ≡ Some source
+  copy_sector : (before : Owners) (pairs : _) (part : List Entry) (list : Rows) (payload : List ℕ) (k source : ℕ)
+      (sector : List ℕ)
+      → HasContent objects uuid_at before (Copy pairs) part list payload → source_in pairs k ≡ Some source
+      → is_own source (before k) ≡ true
       → HasSector objects uuid_at (record { level = 0; number = source }) k sector → sector_in list payload k ≡ Some sector
-  copy_sector pairs part (rows.Data list) payload k source sector has from old = absurd has
-  copy_sector pairs part (rows.Copy list) payload k source sector has from old = has.1 k source sector from old
-  copy_sector pairs part rows.Checkpoint payload k source sector has from old = absurd has
+  copy_sector before pairs part (rows.Data list) payload k source sector has from still old = absurd has
+  copy_sector before pairs part (rows.Copy list) payload k source sector has from still old =
+      has.1 k source sector from still old
+  copy_sector before pairs part rows.Checkpoint payload k source sector has from still old = absurd has
 
   -- an owner that is the volume's own object of a number
   owned : (source : ℕ) (before : Option Owner) (k : ℕ) (sector : List ℕ) → is_own source before ≡ true
@@ -104,29 +108,31 @@ module _ (objects : Objects) (uuid_at : ℕ → Option (List ℕ)) (volume : Exp
 
   -- ---- one object
 
-  module _ (number end : ℕ) (object : StreamObject) (part : List Entry)
-      (is : IsObjectStored objects uuid_at (expected_at volume number end) object part)
-      (before : Owners) (image : Image) (value : IsValue objects uuid_at before image) where
-    by_change : (k : ℕ) (sector : List ℕ) (change : Option Change) → HasContent objects uuid_at Data part is.rows_of is.payload
+  module _ (number end : ℕ) (object : StreamObject) (part : List Entry) (before : Owners)
+      (is : IsObjectStored objects uuid_at (expected_at volume number end) before object part) (image : Image)
+      (value : IsValue objects uuid_at before image) where
+    by_change : (k : ℕ) (sector : List ℕ) (change : Option Change)
+        → HasContent objects uuid_at before Data part is.rows_of is.payload
         → change_at part k ≡ change → changed_by change (slice_get image k) ≡ Some sector
         → StandsForSector objects uuid_at (owner_by_change number change (before k)) k sector
     by_change k sector None has e at = value k sector at
     by_change k sector (Some (Put bytes)) has e at =
-        has_sector number end object part is k sector (data_sector part is.rows_of is.payload k has ∙ (ap sector_put e ∙ at))
+        has_sector number end object part before is k sector
+        (data_sector before part is.rows_of is.payload k has ∙ (ap sector_put e ∙ at))
     by_change k sector (Some Clear) has e at = sym (ap (sector_or zero_sector) at)
 
     by_test : (k source : ℕ) (sector : List ℕ) (still : Bool) (pairs : _)
-        → HasContent objects uuid_at (Copy pairs) part is.rows_of is.payload
+        → HasContent objects uuid_at before (Copy pairs) part is.rows_of is.payload
         → source_in pairs k ≡ Some source → is_own source (before k) ≡ still → slice_get image k ≡ Some sector
         → StandsForSector objects uuid_at (cond still (Some (record { level = 0; number = number })) (before k)) k sector
     by_test k source sector false pairs has from still at = value k sector at
     by_test k source sector true pairs has from still at =
-        has_sector number end object part is k sector
-        (copy_sector pairs part is.rows_of is.payload k source sector has from
+        has_sector number end object part before is k sector
+        (copy_sector before pairs part is.rows_of is.payload k source sector has from still
         (owned source (before k) k sector still (value k sector at)))
 
     by_copy : (k : ℕ) (sector : List ℕ) (source : Option ℕ) (pairs : _)
-        → HasContent objects uuid_at (Copy pairs) part is.rows_of is.payload
+        → HasContent objects uuid_at before (Copy pairs) part is.rows_of is.payload
         → source_in pairs k ≡ source → slice_get image k ≡ Some sector
         → StandsForSector objects uuid_at (owner_by_copy number source (before k)) k sector
     by_copy k sector None pairs has from at = value k sector at
@@ -138,7 +144,7 @@ module _ (objects : Objects) (uuid_at : ℕ → Option (List ℕ)) (volume : Exp
     HasNone (Copy pairs) = part ≡ []
     HasNone Checkpoint = part ≡ []
 
-    by_content : (content : Content) → HasContent objects uuid_at content part is.rows_of is.payload → HasNone content
+    by_content : (content : Content) → HasContent objects uuid_at before content part is.rows_of is.payload → HasNone content
         → All (EndsBy (length image)) part → IsValue objects uuid_at (after_object number content part before) (after image part)
     by_content Data has none ends k sector at =
         let inside : k < length image = rw (sym (length-after image part ends)) (there (after image part) k sector at) in
@@ -150,21 +156,22 @@ module _ (objects : Objects) (uuid_at : ℕ → Option (List ℕ)) (volume : Exp
         value k sector (ap (λ entries. slice_get (after image entries) k) (sym none) ∙ at)
 
   -- an object that is none of data has no entries
-  none_taken : (number end : ℕ) (object : StreamObject) (entries : List Entry)
-      (is : IsObjectStored objects uuid_at (expected_at volume number end) object (take (object.end - end) entries))
-      (before : Owners) (image : Image) (value : IsValue objects uuid_at before image) (content : Content)
+  none_taken : (number end : ℕ) (object : StreamObject) (entries : List Entry) (before : Owners)
+      (is : IsObjectStored objects uuid_at (expected_at volume number end) before object (take (object.end - end) entries))
+      (image : Image) (value : IsValue objects uuid_at before image) (content : Content)
       → GoesTo content end object.end
-      → HasNone number end object (take (object.end - end) entries) is before image value content
-  none_taken number end object entries is before image value Data goes = tt
-  none_taken number end object entries is before image value (Copy pairs) goes =
+      → HasNone number end object (take (object.end - end) entries) before is image value content
+  none_taken number end object entries before is image value Data goes = tt
+  none_taken number end object entries before is image value (Copy pairs) goes =
       let none : object.end - end ≡ 0 = omega (arith, goes) in ap (λ n. take n entries) none
-  none_taken number end object entries is before image value Checkpoint goes =
+  none_taken number end object entries before is image value Checkpoint goes =
       let none : object.end - end ≡ 0 = omega (arith, goes) in ap (λ n. take n entries) none
 
   -- ---- objects one after the other
 
   value_after : (number end : ℕ) (entries : List Entry) (before : Owners) (image : Image) (list : List StreamObject)
-      → All (EndsBy (length image)) entries → EndsFollow end list → AreStored objects uuid_at volume number end entries list
+      → All (EndsBy (length image)) entries → EndsFollow end list
+      → AreStored objects uuid_at volume number end entries before list
       → IsValue objects uuid_at before image
       → IsValue objects uuid_at (after_objects number end entries before list)
       (after image (take (end_after end list - end) entries))
@@ -179,8 +186,8 @@ module _ (objects : Objects) (uuid_at : ℕ → Option (List ℕ)) (volume : Exp
       let part_ends : All (EndsBy (length image)) part = All-take (EndsBy (length image)) (object.end - end) entries ends in
       let later_ends : All (EndsBy (length (after image part))) later =
       rw (length-after image part part_ends) (All-drop (EndsBy (length image)) (object.end - end) entries ends) in
-      let one = by_content (number + 1) end object part stored.0 before image value object.content stored.0.content
-      (none_taken (number + 1) end object entries stored.0 before image value object.content follow.0) part_ends in
+      let one = by_content (number + 1) end object part before stored.0 image value object.content stored.0.content
+      (none_taken (number + 1) end object entries before stored.0 image value object.content follow.0) part_ends in
       let all = value_after (number + 1) object.end later (after_object (number + 1) object.content part before)
       (after image part) list later_ends follow.1 stored.1 one in
       let split : take (end_after object.end list - end) entries ≡ part ++ take (end_after object.end list - object.end) later =

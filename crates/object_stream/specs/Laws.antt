@@ -79,7 +79,7 @@ StoredObjectsReplay =
     (objects : Objects) (uuid_at : ℕ → Option (List ℕ)) (volume : Expected) (number end last_end : ℕ) (entries : List Entry)
     (before after_them : Owners) (list : List StreamObject)
     → volume.sectors < 2 ^ 64
-    → AreStored objects uuid_at volume number end entries list
+    → AreStored objects uuid_at volume number end entries before list
     → Replays objects volume number end before (length list) last_end after_them
     → ((k : ℕ) → after_them k ≡ after_objects number end entries before list k) × (last_end ≡ end_after end list)
 
@@ -88,7 +88,7 @@ abbrev pub StoredObjectsAreReplayed : Type 0
 StoredObjectsAreReplayed =
     (objects : Objects) (uuid_at : ℕ → Option (List ℕ)) (volume : Expected) (number end : ℕ) (entries : List Entry)
     (before after_them : Owners) (list : List StreamObject)
-    → AreStored objects uuid_at volume number end entries list
+    → AreStored objects uuid_at volume number end entries before list
     → ((k : ℕ) → after_them k ≡ after_objects number end entries before list k)
     → Replays objects volume number end before (length list) (end_after end list) after_them
 
@@ -116,7 +116,7 @@ ValueIsImageAfter =
     (objects : Objects) (uuid_at : ℕ → Option (List ℕ)) (volume : Expected) (number end : ℕ) (entries : List Entry)
     (before : Owners) (image : Image) (list : List StreamObject)
     → uuid_at 0 ≡ Some volume.uuid → volume.sectors < 2 ^ 64 → All (EndsBy (length image)) entries → EndsFollow end list
-    → AreStored objects uuid_at volume number end entries list
+    → AreStored objects uuid_at volume number end entries before list
     → IsValue objects uuid_at before image
     → IsValue objects uuid_at (after_objects number end entries before list)
     (after image (take (end_after end list - end) entries))

@@ -1,6 +1,8 @@
 -- Contract: the stream of objects that a history becomes, and who owns each sector after any number of them.
 use Rattle.std.specs.Prelude.{◌≡◌, ℕ, ◌+◌, ◌-◌, ◌<◌, ◌≤◌, ◌==◌, Bool, false, ◌&&◌, Option, Some, None, List, [], ◌∷◌, length}
 use Rattle.std.specs.Prelude.{take, drop, if◌then◌else◌}
+use Rattle.std.specs.List.{count_by, range_with_len}
+use Rattle.std.specs.Option.{is_some}
 use Rattle.lsvd_base.specs.declared.entry.Entry.{Entry}
 use Rattle.object_stream.specs.declared.change.Change.{Change}
 use Rattle.object_stream.specs.declared.change.Change.TheVariants.{Put, Clear}
@@ -9,7 +11,7 @@ use Rattle.object_stream.specs.declared.object.Content.{Content}
 use Rattle.object_stream.specs.declared.object.Content.TheVariants.{Data, Copy, Checkpoint}
 use Rattle.object_stream.specs.declared.object.StreamObject.{StreamObject}
 use Rattle.object_stream.specs.declared.owner.Owner.{Owner}
-use Rattle.object_stream.specs.Changes.{change_at}
+use Rattle.object_stream.specs.Changes.{change_at, place_in_payload}
 
 -- who owns each sector of a volume; a sector without an owner has zeros
 abbrev pub Owners : Type 0
@@ -40,6 +42,17 @@ owner_by_change number (Some Clear) before = None
 abbrev pub source_in : List CopiedSector → ℕ → Option ℕ
 source_in [] k = None
 source_in (copied ∷ more) k = if copied.lba == k then Some copied.source else source_in more k
+
+-- Where a copy of these sectors has a sector in its payload: after those below it that it has.
+abbrev pub place_in_copy : List CopiedSector → (k : ℕ) → ℕ
+place_in_copy pairs k = count_by (λ i. is_some (source_in pairs i)) (range_with_len 0 k)
+
+-- Where an object of this content has one, where a data object has these entries. So it is, of the first sector past a volume,
+-- how many sectors of payload the object has.
+abbrev pub place_in_object : Content → List Entry → (k : ℕ) → ℕ
+place_in_object Data entries k = place_in_payload entries k
+place_in_object (Copy pairs) entries k = place_in_copy pairs k
+place_in_object Checkpoint entries k = 0
 
 -- the owner is the volume's own object of this number
 abbrev pub is_own : (number : ℕ) → Option Owner → Bool

@@ -27,5 +27,5 @@ pub use laws::{
 };
 pub use object::{Content, CopiedSector, CopiedSectors, StreamObject};
 pub use owner::Owner;
-pub use plain_stream::PlainStream;
+pub use plain_stream::{PlainStream, source_in};
 pub use value::sector_in;

@@ -150,8 +150,8 @@ fn owner_by_copy(
     }
 }
 
-// The source of a sector in a copy, if the copy has it.
-fn source_in(pairs: &[CopiedSector], sector: u64) -> Option<u64>
+/// The source of a sector in a copy, if the copy has it.
+pub fn source_in(pairs: &[CopiedSector], sector: u64) -> Option<u64>
     ensures { result ≡ source_in pairs.now sector }
 {
     for copied in pairs {

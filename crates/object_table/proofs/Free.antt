@@ -1,9 +1,9 @@
 -- The first of the numbers that pass a test is the lowest.
-use Rattle.std.proofs.Common.{ℕ, ◌≤◌, ◌≡◌, Bool, true, false, cond, Some, List, [], ◌∷◌, ◌++◌, refl, ap, sym, arith}
+use Rattle.std.proofs.Common.{ℕ, ◌≤◌, ◌≡◌, Bool, true, false, cond, not, ◌&&◌, Some, List, [], ◌∷◌, ◌++◌, refl, ap, sym, arith}
 use Rattle.std.proofs.Common.{get_or, drop, nat_eq, IsTrue}
 use Rattle.std.specs.Prelude.{slice_get}
 use Rattle.std.specs.List.{filter}
-use Rattle.std.proofs.lemmas.Bool.{and_parts, and_from}
+use Rattle.std.proofs.lemmas.Bool.{and_parts, and_from, not-true, not_from_false}
 use Rattle.std.proofs.lemmas.Bool.Decides.{nat_tests}
 use Rattle.object_table.specs.declared.row.ObjectRow.{ObjectRow}
 use Rattle.object_table.specs.Table.{has_number, numbers, row_of, TableState, IsRemovable, IsLowestRemovable}
@@ -65,17 +65,20 @@ passing test low number before more (first ∷ rows) order listed =
 
 -- ---- the object that may be removed
 
-free_parts : (row : ObjectRow) → is_free row ≡ true → IsTrue row.is_unmapped × (row.pins ≡ 0)
+free_parts : (row : ObjectRow) → is_free row ≡ true → IsTrue row.is_unmapped × (row.pins ≡ 0) × (row.is_copied ≡ false)
 free_parts row is =
-    let parts = and_parts row.is_unmapped (nat_eq row.pins 0) is in
+    let holds = and_parts (row.is_unmapped && nat_eq row.pins 0) (not row.is_copied) is in
+    let parts = and_parts row.is_unmapped (nat_eq row.pins 0) holds.0 in
     let no_pins = parts.1 in
-    (parts.0, grind (arith, nat_tests, no_pins))
+    (parts.0, grind (arith, nat_tests, no_pins), not-true row.is_copied holds.1)
 
 is_removed : (table : TableState) (number : ℕ) (removable : IsRemovable table number) → is_free removable.row ≡ true
 is_removed table number removable =
     let pins = removable.no_pins in
     let none : nat_eq removable.row.pins 0 ≡ true = grind (arith, nat_tests) in
-    and_from removable.row.is_unmapped (nat_eq removable.row.pins 0) removable.unmapped none
+    and_from (removable.row.is_unmapped && nat_eq removable.row.pins 0) (not removable.row.is_copied)
+    (and_from removable.row.is_unmapped (nat_eq removable.row.pins 0) removable.unmapped none)
+    (not_from_false removable.row.is_copied removable.not_copied)
 
 pub lowest : (table : TableState) (dead free candidates : List ℕ)
     → IsListed table.checkpoint table.rows dead free candidates → IsLowestRemovable table (slice_get free 0)
@@ -93,6 +96,7 @@ lowest table dead (first ∷ rest) candidates listed =
         unmapped = parts.0;
         dead = stays.0;
         no_pins = parts.1;
+        not_copied = parts.2;
       },
       λ number removable.
           first_is_lowest is_free 0 number first rest table.rows removable.row listed.order removable.stands

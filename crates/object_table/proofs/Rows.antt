@@ -22,6 +22,7 @@ blank = record {
   front = 0;
   live = 0;
   pins = 0;
+  is_copied = false;
   is_unmapped = false;
 }
 

@@ -51,8 +51,8 @@ pub record IsNewest (table : TableState) (number : ℕ) : Type 0 where
 
 -- ---- which objects may be removed
 
--- An object may be removed: the newest acknowledged checkpoint has a greater number, it does not map the object, and no pin is on
--- it. So it is not that checkpoint, and no live sector is in it.
+-- An object may be removed: the newest acknowledged checkpoint has a greater number, it does not map the object, no pin is on it,
+-- and no plan of a copy takes sectors from it. So it is not that checkpoint, and no live sector is in it.
 pub record IsRemovable (table : TableState) (number : ℕ) : Type 0 where
   pub row : ObjectRow
   pub stands : row_of number table.rows ≡ Some row
@@ -60,6 +60,7 @@ pub record IsRemovable (table : TableState) (number : ℕ) : Type 0 where
   pub unmapped : IsTrue row.is_unmapped
   pub dead : row.live ≡ 0
   pub no_pins : row.pins ≡ 0
+  pub not_copied : row.is_copied ≡ false
 
 -- the lowest number that may be removed; none where there is no such number
 abbrev pub IsLowestRemovable : TableState → Option ℕ → Type 0
@@ -93,6 +94,10 @@ pinned row = record row { pins = row.pins + 1 }
 abbrev pub unpinned : ObjectRow → ObjectRow
 unpinned row = record row { pins = row.pins - 1 }
 
+-- and once a plan of a copy takes sectors from it, or no longer does
+abbrev pub copied : (is_copied : Bool) → ObjectRow → ObjectRow
+copied is_copied row = record row { is_copied = is_copied }
+
 -- a table with the row of a number changed
 abbrev pub with_changed : (ObjectRow → ObjectRow) → ℕ → TableState → TableState
 with_changed change number table = record table { rows = changed change number table.rows }
@@ -105,6 +110,7 @@ new_row number payload front = record {
   front = front;
   live = 0;
   pins = 0;
+  is_copied = false;
   is_unmapped = false;
 }
 

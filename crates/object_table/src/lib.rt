@@ -2,8 +2,9 @@
 //!
 //! Its contract: a change of the settled map changes the live counts just as it says, and the lowest object
 //! that may be removed is known without a search: one below the newest acknowledged checkpoint that this does
-//! not map, and on which no pin is. So are the objects that a collection may take sectors from. It stands on
-//! the standard library alone, and takes memory in `reserve` alone.
+//! not map, on which no pin is, and from which no plan of a copy takes sectors. So are the objects that a
+//! collection may take sectors from. It stands on the standard library alone, and takes memory in `reserve`
+//! alone.
 #![tactic(auto)]
 
 mod list;

@@ -22,6 +22,8 @@ pub struct ObjectRow {
     pub live: u64,
     /// How often it is pinned.
     pub pins: u64,
+    /// Whether the plan of a copy takes sectors from it.
+    pub is_copied: bool,
     /// Whether the newest acknowledged checkpoint has a greater number and does not map it.
     pub is_unmapped: bool,
 }
@@ -37,6 +39,7 @@ pub(crate) fn new_row(number: u64, payload: u64, front: u64) -> ObjectRow
         front,
         live: 0,
         pins: 0,
+        is_copied: false,
         is_unmapped: false,
     }
 }
@@ -52,7 +55,7 @@ pub(crate) fn is_dead(row: &ObjectRow) -> bool
 pub(crate) fn is_free(row: &ObjectRow) -> bool
     ensures { result ≡ is_free row.now }
 {
-    row.is_unmapped && row.pins == 0
+    row.is_unmapped && row.pins == 0 && !row.is_copied
 }
 
 // Whether a collection may take sectors from the object: it has live ones, and few for its payload.

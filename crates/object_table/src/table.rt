@@ -2,7 +2,7 @@ ghost use Rattle.std.specs.Prelude.{◌≡◌, ◌+◌, ◌<◌, ◌≤◌, ◌^
 ghost use Rattle.std.specs.Prelude.{vec_capacity, OnOk, IsOk, IfSome};
 ghost use Rattle.std.specs.List.{All};
 ghost use Rattle.object_table.specs.Table.{row_of, live_of, with_changed, without, IsNewest, gained, lost};
-ghost use Rattle.object_table.specs.Table.{pinned, unpinned, new_row, added, passed, acknowledged};
+ghost use Rattle.object_table.specs.Table.{pinned, unpinned, copied, new_row, added, passed, acknowledged};
 ghost use Rattle.object_table.specs.Table.{IsLowestRemovable, candidates, numbers};
 ghost use Rattle.object_table.specs.Lists.{Climbs, IsListed, KeepsUnmapped, with_row};
 
@@ -183,6 +183,17 @@ impl ObjectTable {
         }
     }
 
+    /// A plan of a copy takes sectors from an object, so that it is not removed, or takes none any longer.
+    /// One that is absent changes nothing. It takes no memory.
+    pub fn set_copied(&mut self, number: u64, is_copied: bool)
+        ensures { self.new ≡ with_changed (copied is_copied) number self.old }
+    {
+        if let Some(mut row) = self.row(number) {
+            row.is_copied = is_copied;
+            self.put_row(row);
+        }
+    }
+
     /// A checkpoint is acknowledged, and is added. It maps just the objects that have a live sector now: it
     /// was put when all with lower numbers were settled. The conditions are those of `add`. Only the objects
     /// are looked at that lost their last live sector since the checkpoint before, and it takes no memory.
@@ -197,7 +208,8 @@ impl ObjectTable {
     }
 
     /// The lowest number of an object that may be removed: the newest acknowledged checkpoint has a greater
-    /// number and does not map it, and it is not pinned. None is where there is no such object.
+    /// number and does not map it, it is not pinned, and no plan of a copy takes sectors from it. None is
+    /// where there is no such object.
     pub fn removable(&self) -> Option<u64>
         ensures { IsLowestRemovable self.now result }
     {

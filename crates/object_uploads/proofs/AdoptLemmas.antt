@@ -2,6 +2,7 @@
 use Rattle.std.proofs.Common.{◌≡◌, ℕ, ◌+◌, ◌-◌, ◌<◌, ◌≤◌, cond, Bool, true, false, None, List, [], ◌∷◌, ◌++◌, length, take, drop}
 use Rattle.std.proofs.Common.{refl, sym, ◌∙◌, ap, subst, arith, length-append, length-drop}
 use Rattle.std.specs.Prelude.{IfSome}
+use Rattle.std.specs.Global.{Vec}
 use Rattle.std.proofs.Math.Seq.{take-length, drop-length, drop-append_seam}
 use Rattle.lsvd_base.specs.declared.entry.Entry.{Entry}
 use Rattle.lsvd_objstore.specs.Store.{ReceiptState}
@@ -19,12 +20,14 @@ use Rattle.object_stream.proofs.StreamLemmas.{after_in_parts, end_in_parts, end_
 use Rattle.volume_maps.specs.Places.{left_at}
 use Rattle.volume_maps.specs.Maps.{settled_by, logged_by, settled_at, logged_at}
 use Rattle.volume_maps.specs.Laws.{place_owner}
+use Rattle.object_uploads.specs.declared.rows.SealedRows.TheVariants as sealed_rows
 use Rattle.object_uploads.specs.State.{UploadsState}
 use Rattle.object_uploads.specs.Order.{IsUploads}
 use Rattle.object_uploads.specs.Changes.{IsAdopted}
 use Rattle.object_uploads.specs.Stream.{HoldsEntries, IsPlacedIn, AreOfStream}
 use Rattle.object_uploads.specs.Laws.{with_adopted, AdoptingKeepsStream}
 use Rattle.object_uploads.proofs.PlacedLemmas.{HasSameEntries, both_same, longer, longer_same, objects_same, end_with_objects}
+use Rattle.object_uploads.proofs.PlacedLemmas.{IsUnder, last_object}
 use Rattle.object_uploads.proofs.KeepLemmas.{owner_of_entries, placed_of_entries}
 use Rattle.object_uploads.proofs.GrowLemmas.{owners_more, follow_more, all_objects, last_end_is, grown_placed}
 
@@ -42,13 +45,13 @@ nothing_left : {X : Type 0} (n : ℕ) (list : List X) → drop n list ≡ [] →
 nothing_left n list none = let size = length-drop n list in let zero_ = ap length none in omega (arith, size, zero_)
 
 module _ (volume : Expected) (data_at : ℕ → ℕ) (stream : Stream) (old new : UploadsState) (entries : List Entry) (bytes : List ℕ)
-    (rows : List DataRow) (end : ℕ) (receipt : ReceiptState)
+    (rows : Vec DataRow) (end : ℕ) (receipt : ReceiptState)
     (uploads : IsUploads old) (are : AreOfStream volume data_at stream old) (none : old.queue.sealed ≡ [])
     (all_in : unsealed stream ≡ [])
     (ends : end ≡ stream.end + length stream.entries + length entries) (some : 0 < length entries)
     (holds : HoldsEntries (expected_at volume (last_number stream + 1) (end_at stream
-    (last_number stream))) entries end bytes rows)
-    (adopted : IsAdopted rows end receipt old new) where
+    (last_number stream))) entries end bytes rows.items)
+    (adopted : IsAdopted (sealed_rows.Data rows) end receipt old new) where
   abbrev object : StreamObject
   object = record { content = Data; end = end }
 
@@ -109,6 +112,14 @@ module _ (volume : Expected) (data_at : ℕ → ℕ) (stream : Stream) (old new 
       ∙ (ap (λ x. take (x - e) (drop (e - stream.end) more)) (sym grown_end)
       ∙ ap (λ x. take (end_at grown (last + 1) - x) (drop (x - stream.end) more)) same_end)
 
+  under : IsUnder grown (last + 1) Data entries
+  under = record {
+    object = object;
+    there = last_object (longer entries stream) object (last + 1) refl;
+    content_is = refl;
+    entries_are = own;
+  }
+
   grown_owners : (k : ℕ) → owners grown (last + 1) k ≡ after_object (last + 1) Data entries (owners stream last) k
   grown_owners k =
       ap (λ os. after_objects stream.number stream.end more stream.opening os k) grown_objects
@@ -126,8 +137,9 @@ module _ (volume : Expected) (data_at : ℕ → ℕ) (stream : Stream) (old new 
   now_settled k =
       let before = are.settled k ∙ ap (λ n. owners stream n k) at_last in
       ap place_owner (adopted.settled.maps.settled k)
-      ∙ (ap (λ n. place_owner (settled_by (n + 1) rows (settled_at old.queue.maps k) k)) at_last
-      ∙ (owner_of_entries volume (last + 1) (end_at stream last) entries end bytes rows holds k (settled_at old.queue.maps k)
+      ∙ (ap (λ n. place_owner (settled_by (n + 1) rows.items (settled_at old.queue.maps k) k)) at_last
+      ∙ (owner_of_entries volume (last + 1) (end_at stream last) entries end bytes rows.items holds k
+      (settled_at old.queue.maps k)
       ∙ (ap (owner_by_change (last + 1) (change_at entries k)) before ∙ sym (grown_owners k))))
 
   same_entries : HasSameEntries stream grown
@@ -137,11 +149,11 @@ module _ (volume : Expected) (data_at : ℕ → ℕ) (stream : Stream) (old new 
 
   now_placed : (k : ℕ) → IfSome (settled_at new.queue.maps k) (IsPlacedIn grown k)
   now_placed k =
-      let now : settled_at new.queue.maps k ≡ settled_by (last + 1) rows (settled_at old.queue.maps k) k =
-      adopted.settled.maps.settled k ∙ ap (λ n. settled_by (n + 1) rows (settled_at old.queue.maps k) k) at_last in
+      let now : settled_at new.queue.maps k ≡ settled_by (last + 1) rows.items (settled_at old.queue.maps k) k =
+      adopted.settled.maps.settled k ∙ ap (λ n. settled_by (n + 1) rows.items (settled_at old.queue.maps k) k) at_last in
       subst (λ p. IfSome p (IsPlacedIn grown k)) (sym now)
-      (placed_of_entries volume (last + 1) (end_at stream last) entries end bytes rows holds grown k (settled_at old.queue.maps k)
-      own (grown_placed volume data_at stream grown old uploads are same_entries k))
+      (placed_of_entries volume (last + 1) (end_at stream last) entries end bytes rows.items holds grown k
+      (settled_at old.queue.maps k) under (grown_placed volume data_at stream grown old uploads are same_entries k))
 
   -- nothing is past it
   no_entries : drop (end - stream.end) (stream.entries ++ entries) ≡ []
@@ -169,7 +181,8 @@ module _ (volume : Expected) (data_at : ℕ → ℕ) (stream : Stream) (old new 
       are.logged k ∙ ap (λ es. left_at data_at old.queue.end es k) same
 
   now_logged : (k : ℕ) → logged_at new.queue.maps k ≡ None
-  now_logged k = adopted.settled.maps.logged k ∙ (ap (λ p. logged_by end rows p k) (old_log k) ∙ none_logged end rows k)
+  now_logged k = adopted.settled.maps.logged k ∙ (ap (λ p. logged_by end rows.items p k) (old_log k)
+      ∙ none_logged end rows.items k)
 
   pub now_of_stream : AreOfStream volume data_at grown new
   now_of_stream =

@@ -1,5 +1,5 @@
 -- An object without a live sector gains none while the rows of another are settled.
-use Rattle.std.proofs.Common.{◌≡◌, ℕ, ◌+◌, ◌-◌, ◌<◌, ◌==◌, Bool, true, false, cond, Option, Some, None, List, []}
+use Rattle.std.proofs.Common.{◌≡◌, ℕ, ◌+◌, ◌-◌, ◌<◌, ◌==◌, ◌&&◌, Bool, true, false, cond, Option, Some, None, List, []}
 use Rattle.std.proofs.Common.{◌∷◌, inl, inr, refl, sym, ◌∙◌, ap, arith}
 use Rattle.std.proofs.lemmas.Bool.{cases_lt}
 use Rattle.std.proofs.lemmas.Bool.Decides.{nat_tests}
@@ -7,11 +7,18 @@ use Rattle.std.proofs.lemmas.List.Sums.{sum_by-cons}
 use Rattle.extent_map.specs.declared.extent.Extent.{Extent}
 use Rattle.extent_map.specs.Extents.{is_within, place_at, IsShortest}
 use Rattle.extent_map.proofs.Places.{at_inside, at_past, after_row, none_before}
+use Rattle.object_format.specs.declared.copy_row.CopyRow.{CopyRow}
 use Rattle.object_format.specs.declared.data_row.DataRow.{DataRow}
 use Rattle.volume_maps.specs.declared.place.ObjectPlace.{ObjectPlace}
 use Rattle.volume_maps.specs.Places.{object_on}
-use Rattle.volume_maps.specs.Maps.{row_object_place, settled_by_row, settled_by}
+use Rattle.volume_maps.specs.Maps.{row_object_place, settled_by_row, settled_by, settled_by_copy_row, settled_by_copy}
 use Rattle.volume_maps.specs.Live.{is_in_object, is_live, sectors_in, live_sectors}
+
+-- a change of places gives sectors to the object of a number alone: no other one comes to have a sector that it did not have
+abbrev pub GivesAlone : (next : ℕ) → (Option ObjectPlace → ℕ → Option ObjectPlace) → Type 0
+GivesAlone next settle =
+    (number : ℕ) (before : Option ObjectPlace) (k : ℕ) → (next ≡ number → ⊥) → is_live number before ≡ false
+    → is_live number (settle before k) ≡ false
 
 module _ (number : ℕ) where
   -- ---- a map without a live sector of the object has no place in it
@@ -40,23 +47,39 @@ module _ (number : ℕ) where
   -- ---- nor has it one once the rows of another object are settled
 
   module _ (next : ℕ) (other : next ≡ number → ⊥) where
-    other_place : (place : Option ℕ) (i : ℕ) → is_live number (row_object_place next place i) ≡ false
-    other_place None i = refl
-    other_place (Some place) i =
+    other_own : (sector : ℕ) → is_live number (Some (record { level = 0; number = next; sector = sector })) ≡ false
+    other_own sector =
         let differ : (next == number) ≡ false = grind (arith, nat_tests) in
         rw differ refl
+
+    other_place : (place : Option ℕ) (i : ℕ) → is_live number (row_object_place next place i) ≡ false
+    other_place None i = refl
+    other_place (Some place) i = other_own (place + i)
 
     settled_row_by : (test : Bool) (place : Option ℕ) (before : Option ObjectPlace) (i : ℕ) → is_live number before ≡ false
         → is_live number (cond test (row_object_place next place i) before) ≡ false
     settled_row_by true place before i none = other_place place i
     settled_row_by false place before i none = none
 
-    pub nowhere_settled : (rows : List DataRow) (before : Option ObjectPlace) (k : ℕ) → is_live number before ≡ false
+    nowhere_settled : (rows : List DataRow) (before : Option ObjectPlace) (k : ℕ) → is_live number before ≡ false
         → is_live number (settled_by next rows before k) ≡ false
     nowhere_settled [] before k none = none
     nowhere_settled (row ∷ rows) before k none =
         nowhere_settled rows (settled_by_row next row before k) k
         (settled_row_by (is_within row.lba row.sectors k) row.place before (k - row.lba) none)
+
+    copied_row_by : (test : Bool) (sector : ℕ) (before : Option ObjectPlace) → is_live number before ≡ false
+        → is_live number (cond test (Some (record { level = 0; number = next; sector = sector })) before) ≡ false
+    copied_row_by true sector before none = other_own sector
+    copied_row_by false sector before none = none
+
+    nowhere_copied : (rows : List CopyRow) (before : Option ObjectPlace) (k : ℕ) → is_live number before ≡ false
+        → is_live number (settled_by_copy next rows before k) ≡ false
+    nowhere_copied [] before k none = none
+    nowhere_copied (row ∷ rows) before k none =
+        nowhere_copied rows (settled_by_copy_row next row before k) k
+        (copied_row_by (is_within row.lba row.sectors k && is_live row.source.number before) (row.place + (k - row.lba)) before
+        none)
 
   -- ---- and where a map has no place in it, no live sector is
 
@@ -81,12 +104,18 @@ module _ (number : ℕ) where
       let rest = none_live rows shortest.2 (rest_nowhere row rows shortest none) in
       omega (arith, sum_by-cons (sectors_in number) row rows, own, rest)
 
--- where the rows of another object are settled, the object still has no live sector
-pub still_none_live : (number next : ℕ) (list : List DataRow) (old new : List (Extent ObjectPlace)) → (next ≡ number → ⊥)
-    → IsShortest object_on new
-    → ((k : ℕ) → place_at object_on new k ≡ settled_by next list (place_at object_on old k) k)
+-- the rows of a data object give sectors to it alone, and so do those of a copy
+pub data_gives : (next : ℕ) (rows : List DataRow) → GivesAlone next (settled_by next rows)
+data_gives next rows number before k other none = nowhere_settled number next other rows before k none
+
+pub copy_gives : (next : ℕ) (rows : List CopyRow) → GivesAlone next (settled_by_copy next rows)
+copy_gives next rows number before k other none = nowhere_copied number next other rows before k none
+
+-- where another object is settled, the object still has no live sector
+pub still_none_live : (number next : ℕ) (settle : Option ObjectPlace → ℕ → Option ObjectPlace)
+    (old new : List (Extent ObjectPlace)) → GivesAlone next settle → (next ≡ number → ⊥) → IsShortest object_on new
+    → ((k : ℕ) → place_at object_on new k ≡ settle (place_at object_on old k) k)
     → live_sectors number old ≡ 0 → live_sectors number new ≡ 0
-still_none_live number next list old new other shortest settled none =
+still_none_live number next settle old new gives other shortest settled none =
     none_live number new shortest (λ k.
-    ap (is_live number) (settled k)
-    ∙ nowhere_settled number next other list (place_at object_on old k) k (nowhere number old k none))
+    ap (is_live number) (settled k) ∙ gives number (place_at object_on old k) k other (nowhere number old k none))

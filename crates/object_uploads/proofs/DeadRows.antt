@@ -5,19 +5,19 @@ use Rattle.std.specs.Prelude.{map, option_map, nat_eq}
 use Rattle.std.specs.List.{All}
 use Rattle.std.proofs.lemmas.Bool.Decides.{nat_tests}
 use Rattle.extent_map.specs.Extents.{IsShortest}
-use Rattle.object_format.specs.declared.data_row.DataRow.{DataRow}
 use Rattle.object_table.specs.declared.row.ObjectRow.{ObjectRow}
 use Rattle.object_table.specs.Table.{TableState, has_number, numbers, row_of, IsRemovable, new_row, added}
 use Rattle.object_table.specs.Table.{passed}
 use Rattle.object_table.specs.Table.{acknowledged, with_changed}
 use Rattle.object_table.proofs.Rows.{its_number}
 use Rattle.object_table.proofs.Listed.{found_holds}
+use Rattle.volume_maps.specs.declared.place.ObjectPlace.{ObjectPlace}
 use Rattle.volume_maps.specs.Places.{object_on}
-use Rattle.volume_maps.specs.Maps.{MapsState, settled_at, settled_by}
+use Rattle.volume_maps.specs.Maps.{MapsState, settled_at}
 use Rattle.volume_maps.specs.Live.{live_sectors, IsCounted, but_live, HasSameObjects}
 use Rattle.volume_maps.proofs.TableLemmas.{changed_unseen}
 use Rattle.object_uploads.specs.Order.{IsDeadIn}
-use Rattle.object_uploads.proofs.DeadLemmas.{still_none_live}
+use Rattle.object_uploads.proofs.DeadLemmas.{GivesAlone, still_none_live}
 
 -- ---- the row of a number
 
@@ -100,16 +100,16 @@ same_objects_dead number rows old new dead same counted none =
     (found.0, found.1, unmapped ∙ dead.2, counted_row number new found.0 found.1 counted ∙ none)
 
 -- so it is when the next object is settled
-pub dead_settled : (next : ℕ) (row : ObjectRow) (list : List DataRow) (old new : MapsState)
-    → IsCounted old.settled.rows old.objects → All (λ (r : ObjectRow). r.number < next) old.objects.rows
+pub dead_settled : (next : ℕ) (row : ObjectRow) (settle : Option ObjectPlace → ℕ → Option ObjectPlace) (old new : MapsState)
+    → GivesAlone next settle → IsCounted old.settled.rows old.objects → All (λ (r : ObjectRow). r.number < next) old.objects.rows
     → HasSameObjects (added row old.objects) new.objects
-    → ((k : ℕ) → settled_at new k ≡ settled_by next list (settled_at old k) k) → IsShortest object_on new.settled.rows
+    → ((k : ℕ) → settled_at new k ≡ settle (settled_at old k) k) → IsShortest object_on new.settled.rows
     → IsCounted new.settled.rows new.objects → (number : ℕ) → IsDeadIn old number → IsDeadIn new number
-dead_settled next row list old new counted below same settled shortest now number dead =
+dead_settled next row settle old new gives counted below same settled shortest now number dead =
     let low = found_holds (λ (r : ObjectRow). r.number < next) number old.objects.rows dead.0 dead.1 below in
     let own = its_number number old.objects.rows dead.0 dead.1 in
     let other : next ≡ number → ⊥ = λ is. absurd (omega (arith, low, own, is)) in
-    let none = still_none_live number next list old.settled.rows new.settled.rows other shortest settled
+    let none = still_none_live number next settle old.settled.rows new.settled.rows gives other shortest settled
     (dead_has_none number old counted dead) in
     same_objects_dead number (row ∷ []) old new dead same.rows now none
 
@@ -127,18 +127,18 @@ dead_passed next old new same number dead =
       dead.3,
     )
 
--- an object but for its pins
-abbrev pub but_pins : ObjectRow → ObjectRow
-but_pins row = record row { pins = 0 }
+-- an object but for what holds it
+abbrev pub but_held : ObjectRow → ObjectRow
+but_held row = record row { pins = 0; is_copied = false }
 
--- and when pins change
+-- and when that changes
 pub dead_pinned : (change : ObjectRow → ObjectRow) (changes : ℕ) (old new : MapsState)
-    → ((r : ObjectRow) → but_pins (change r) ≡ but_pins r) → new.objects ≡ with_changed change changes old.objects → (number : ℕ)
+    → ((r : ObjectRow) → but_held (change r) ≡ but_held r) → new.objects ≡ with_changed change changes old.objects → (number : ℕ)
     → IsDeadIn old number → IsDeadIn new number
 dead_pinned change changes old new keeps same number dead =
-    let views : map but_pins new.objects.rows ≡ map but_pins old.objects.rows =
-    ap (λ (t : TableState). map but_pins t.rows) same ∙ changed_unseen but_pins change changes old.objects.rows keeps in
-    let found = row_seen but_pins number old.objects.rows new.objects.rows dead.0 (λ r. refl) views dead.1 in
+    let views : map but_held new.objects.rows ≡ map but_held old.objects.rows =
+    ap (λ (t : TableState). map but_held t.rows) same ∙ changed_unseen but_held change changes old.objects.rows keeps in
+    let found = row_seen but_held number old.objects.rows new.objects.rows dead.0 (λ r. refl) views dead.1 in
     let unmapped : found.0.is_unmapped ≡ dead.0.is_unmapped = ap (λ (r : ObjectRow). r.is_unmapped) found.2 in
     let live : found.0.live ≡ dead.0.live = ap (λ (r : ObjectRow). r.live) found.2 in
     (found.0, found.1, unmapped ∙ dead.2, live ∙ dead.3)
@@ -155,7 +155,7 @@ pub numbers_passed : (rows : List ObjectRow) → numbers (map passed rows) ≡ n
 numbers_passed rows = numbers_seen passed rows (λ r. refl)
 
 pub numbers_pinned : (change : ObjectRow → ObjectRow) (changes : ℕ) (old new : TableState)
-    → ((r : ObjectRow) → but_pins (change r) ≡ but_pins r) → new ≡ with_changed change changes old
+    → ((r : ObjectRow) → but_held (change r) ≡ but_held r) → new ≡ with_changed change changes old
     → numbers new.rows ≡ numbers old.rows
 numbers_pinned change changes old new keeps same =
     ap (λ (t : TableState). numbers t.rows) same

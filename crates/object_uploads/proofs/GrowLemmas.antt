@@ -8,7 +8,7 @@ use Rattle.std.proofs.Math.Seq.{take-length}
 use Rattle.lsvd_base.specs.declared.entry.Entry.{Entry}
 use Rattle.extent_map.specs.Extents.{place_at}
 use Rattle.object_format.specs.declared.expected.Expected.{Expected}
-use Rattle.object_stream.specs.declared.object.Content.TheVariants.{Data}
+use Rattle.object_stream.specs.declared.object.Content.TheVariants.{Data, Copy}
 use Rattle.object_stream.specs.declared.object.StreamObject.{StreamObject}
 use Rattle.object_stream.specs.Stream.{Owners, Stream, after_object, after_objects, owners, end_after, end_at, last_number}
 use Rattle.object_stream.specs.Stream.{objects_to, unsealed, GoesTo, EndsFollow, IsStream}
@@ -28,6 +28,7 @@ use Rattle.object_uploads.specs.Order.{PlaceFits, IsUploads}
 use Rattle.object_uploads.specs.Changes.{IsSealedNext}
 use Rattle.object_uploads.specs.Stream.{IsPlacedIn, IsSealedOf, AreSealedOf, AreOfStream}
 use Rattle.object_uploads.specs.Laws.{with_entry, with_data_object, StreamBegins, EnteringKeepsStream, SealingKeepsStream}
+use Rattle.object_uploads.specs.Laws.{SealingCopyKeepsStream}
 use Rattle.object_uploads.proofs.PlacedLemmas.{AreUpTo, settled_up_to, HasSameEntries, settled_still, sealed_still}
 use Rattle.object_uploads.proofs.PlacedLemmas.{longer_same, with_objects, objects_same, one_after_same}
 use Rattle.object_uploads.proofs.KeepLemmas.{tail_follow, tail_order, tail_last, tail_entries, tail_end, tail_within}
@@ -419,6 +420,12 @@ module _ (volume : Expected) (data_at : ℕ → ℕ) (stream : Stream) (old : Up
         sealed = rw (sealed.sealed, end_same, rest_more, are.end, owners_same) grown_sealed;
         logged = rw end_same same_log;
       })
+
+pub sealing_copy_keeps_stream : SealingCopyKeepsStream
+sealing_copy_keeps_stream volume data_at stream old new pairs bytes rows uploads are is sealed =
+    object_sealed volume data_at stream old uploads are new bytes (sealed_rows.Copy rows)
+    (record { content = Copy pairs; end = end_at stream (last_number stream) }) refl are.valid.within
+    (record { end = refl; holds = is }) sealed
 
 pub sealing_keeps_stream : SealingKeepsStream
 sealing_keeps_stream volume data_at stream old new bytes rows end uploads are past within is sealed =

@@ -1,5 +1,5 @@
 -- The calls keep the image that the objects have, or make the image after what they settle.
-use Rattle.std.proofs.Common.{◌≡◌, ℕ, zero, suc, ◌+◌, ◌-◌, ◌≤◌, not, Some, List, [], ◌∷◌, ◌++◌, take, drop}
+use Rattle.std.proofs.Common.{◌≡◌, ℕ, zero, suc, ◌+◌, ◌-◌, ◌≤◌, not, Bool, false, Some, List, [], ◌∷◌, ◌++◌, take, drop}
 use Rattle.std.proofs.Common.{length, sym, ◌∙◌, ap, subst}
 use Rattle.std.specs.Prelude.{map}
 use Rattle.std.specs.List.{AllByRecursion, All, slice_get}
@@ -14,16 +14,23 @@ use Rattle.object_stream.specs.Stream.{Owners, Stream, after_object, owners, end
 use Rattle.object_stream.specs.Laws.{from_object}
 use Rattle.object_table.specs.declared.row.ObjectRow.{ObjectRow}
 use Rattle.object_table.specs.Table.{TableState, numbers}
+use Rattle.volume_maps.specs.Maps.{MapsState}
+use Rattle.object_uploads.specs.declared.rows.SealedRows.{SealedRows}
+use Rattle.object_uploads.specs.declared.rows.SealedRows.TheVariants as sealed_rows
 use Rattle.object_uploads.specs.State.{SealedState, NumberedReceipt, QueueState, UploadsState}
-use Rattle.object_uploads.specs.Queue.{with_at, with_spare, with_receipt, just_sealed, HasBytesAt, end_of_last}
+use Rattle.object_uploads.specs.Queue.{with_at, with_spare, with_receipt, just_sealed, HasBytesAt, is_copy, end_of_last}
 use Rattle.object_uploads.specs.Order.{is_out, AreKnown}
-use Rattle.object_uploads.specs.Changes.{index_of, IsOut}
+use Rattle.object_uploads.specs.Changes.{index_of, IsSealedNext, IsOut}
 use Rattle.object_uploads.specs.Stream.{AreSealedOf}
-use Rattle.object_uploads.specs.Image.{HasImage, IsReceiptFor, HasOwnReceipts}
+use Rattle.object_uploads.specs.Image.{HasImage, IsReceiptFor, HasOwnReceipts, IsCopiedIfCopy, AreCopied}
 use Rattle.object_uploads.specs.ImageLaws.{ImageBegins, EnteringKeepsImage, SealingKeepsImage, RoomKeepsImage, JobsKeepImage}
-use Rattle.object_uploads.specs.ImageLaws.{DoneKeepsReceipts, settled_entries, DoneMakesImage, AdoptingMakesImage}
+use Rattle.object_uploads.specs.ImageLaws.{SealingCopyKeepsImage, DoneKeepsReceipts, settled_entries, DoneMakesImage}
+use Rattle.object_uploads.specs.ImageLaws.{AdoptingMakesImage, AdoptingCopyKeepsImage}
 use Rattle.object_uploads.proofs.StoredLemmas.{fixed, AreUpTo}
-use Rattle.object_uploads.proofs.SettleImage.{sector_or, IsTold, has_data, has_all}
+use Rattle.object_uploads.proofs.CopyImage.{CopiedOf, all_with, all_more, all_left, copies_same, are_copied_same}
+use Rattle.object_uploads.proofs.SettleImage.{sector_or, IsTold, has_data, has_copy}
+use Rattle.object_uploads.proofs.SettleAllImage.{has_all}
+use Rattle.object_uploads.proofs.TellLemmas.{Tells}
 
 -- a new image has zeros alone
 blank_sector : (sectors k : ℕ) (sector : List ℕ) → slice_get (blank sectors) k ≡ Some sector → sector ≡ zero_sector
@@ -33,14 +40,6 @@ blank_sector (suc sectors) (suc k) sector at = blank_sector sectors k sector at
 
 -- ---- receipts
 
--- objects of which one is changed, where that one still has its own receipt
-told_with : (index : ℕ) (change : SealedState → SealedState) (list : List SealedState)
-    → ((s : SealedState) → IsTold s → IsTold (change s))
-    → AllByRecursion IsTold list → AllByRecursion IsTold (with_at index change list)
-told_with index change [] still told = tt
-told_with zero change (first ∷ more) still told = (still first told.0, told.1)
-told_with (suc index) change (first ∷ more) still told = (told.0, told_with index change more still told.1)
-
 told_at : (index : ℕ) (receipt : ReceiptState) (bytes : List ℕ) (list : List SealedState) → HasBytesAt index list bytes
     → IsReceiptFor bytes receipt
     → AllByRecursion IsTold list → AllByRecursion IsTold (with_at index (with_receipt receipt) list)
@@ -48,21 +47,11 @@ told_at index receipt bytes [] has tells told = tt
 told_at zero receipt bytes (first ∷ more) has tells told = (subst (λ b. IsReceiptFor b receipt) has tells, told.1)
 told_at (suc index) receipt bytes (first ∷ more) has tells told = (told.0, told_at index receipt bytes more has tells told.1)
 
-told_more : (list : List SealedState) (last : SealedState) → IsTold last → AllByRecursion IsTold list
-    → AllByRecursion IsTold (list ++ last ∷ [])
-told_more [] last is told = (is, tt)
-told_more (first ∷ list) last is told = (told.0, told_more list last is told.1)
-
-told_left : (count : ℕ) (list : List SealedState) → AllByRecursion IsTold list → AllByRecursion IsTold (drop count list)
-told_left zero list told = told
-told_left (suc count) [] told = tt
-told_left (suc count) (first ∷ list) told = told_left count list told.1
-
 -- ---- the calls
 
 pub image_begins : ImageBegins
 image_begins queue sectors sealed settled =
-    (λ k sector at. rw settled (blank_sector sectors k sector at), rw sealed tt)
+    (λ k sector at. rw settled (blank_sector sectors k sector at), rw sealed tt, λ tells image. rw sealed tt)
 
 -- while the places, the objects and their receipts stay, the image does
 same_image : (old new : QueueState) → new.maps.settled.rows ≡ old.maps.settled.rows
@@ -75,26 +64,67 @@ entering_keeps_image entry seq data_at old new entered = record {
   image = same_image old new (ap (λ (m : _). m.rows) entered.settled) (ap (λ (t : TableState). t.rows) entered.objects)
       entered.receipts;
   receipts = λ told. rw entered.sealed told;
+  copies = λ tells image copied.
+      are_copied_same tells image old new entered.frontier (ap (λ (m : _). m.rows) entered.settled) entered.sealed copied;
 }
 
+-- the copies past the frontier with one object more
+copies_more : (bytes : List ℕ) (rows : SealedRows) (end : ℕ) (old new : UploadsState) (tells : Bool) (image : Image)
+    → IsSealedNext bytes rows end old new
+    → IsCopiedIfCopy tells image old.queue.frontier old.queue.maps bytes rows → AreCopied tells image old.queue
+    → AreCopied tells image new.queue
+copies_more bytes rows end old new tells image sealed own copied =
+    let last = just_sealed bytes rows end in
+    subst (AllByRecursion (CopiedOf tells image new.queue.frontier new.queue.maps)) (sym sealed.sealed)
+    (copies_same tells image old.queue new.queue sealed.settled.frontier sealed.settled.places.settled
+    (old.queue.sealed ++ last ∷ [])
+    (all_more (CopiedOf tells image old.queue.frontier old.queue.maps) old.queue.sealed last own copied))
+
+receipts_more : (bytes : List ℕ) (rows : SealedRows) (end : ℕ) (old new : UploadsState) → IsSealedNext bytes rows end old new
+    → HasOwnReceipts old.queue → HasOwnReceipts new.queue
+receipts_more bytes rows end old new sealed told =
+    rw sealed.sealed (all_more IsTold old.queue.sealed (just_sealed bytes rows end) tt told)
+
+no_copy : (rows : SealedRows) (tells : Bool) (image : Image) (frontier : ℕ) (maps : MapsState) (bytes : List ℕ)
+    → is_copy rows ≡ false → IsCopiedIfCopy tells image frontier maps bytes rows
+no_copy (sealed_rows.Data list) tells image frontier maps bytes other = tt
+no_copy (sealed_rows.Copy list) tells image frontier maps bytes other = absurd cc
+no_copy sealed_rows.Checkpoint tells image frontier maps bytes other = tt
+
 pub sealing_keeps_image : SealingKeepsImage
-sealing_keeps_image bytes rows end old new sealed = record {
+sealing_keeps_image bytes rows end old new other sealed = record {
   image = same_image old.queue new.queue sealed.settled.places.settled sealed.settled.places.objects
       sealed.settled.receipts;
-  receipts = λ told. rw sealed.sealed (told_more old.queue.sealed (just_sealed bytes rows end) tt told);
+  receipts = receipts_more bytes rows end old new sealed;
+  copies = λ tells image copied.
+      copies_more bytes rows end old new tells image sealed
+      (no_copy rows tells image old.queue.frontier old.queue.maps bytes other) copied;
 }
+
+pub sealing_copy_keeps_image : SealingCopyKeepsImage
+sealing_copy_keeps_image bytes rows end old new tells image sealed own has told copied = (
+  same_image old.queue new.queue sealed.settled.places.settled sealed.settled.places.objects sealed.settled.receipts image has,
+  receipts_more bytes (sealed_rows.Copy rows) end old new sealed told,
+  copies_more bytes (sealed_rows.Copy rows) end old new tells image sealed own copied,
+)
 
 pub room_keeps_image : RoomKeepsImage
 room_keeps_image old new same = record {
   image = same_image old.queue new.queue same.settled.places.settled same.settled.places.objects
       same.settled.receipts;
   receipts = λ told. rw same.sealed told;
+  copies = λ tells image copied.
+      are_copied_same tells image old.queue new.queue same.settled.frontier same.settled.places.settled same.sealed copied;
 }
 
 pub jobs_keep_image : JobsKeepImage
 jobs_keep_image number started uploads = record {
   image = λ image has. has;
-  receipts = λ told. told_with (index_of uploads number) (with_spare (not started)) uploads.queue.sealed (λ s is. is) told;
+  receipts = λ told.
+      all_with IsTold (index_of uploads number) (with_spare (not started)) uploads.queue.sealed (λ s is. is) told;
+  copies = λ tells image copied.
+      all_with (CopiedOf tells image uploads.queue.frontier uploads.queue.maps) (index_of uploads number)
+      (with_spare (not started)) uploads.queue.sealed (λ s is. is) copied;
 }
 
 -- the objects of which one was acknowledged have their own receipts
@@ -107,7 +137,7 @@ acknowledged_tell old number bytes receipt out tells told =
 pub done_keeps_receipts : DoneKeepsReceipts
 done_keeps_receipts old new number bytes receipt done out tells told =
     rw done.settled.sealed (
-    told_left done.count (with_at (index_of old number) (with_receipt receipt) old.queue.sealed)
+    all_left IsTold done.count (with_at (index_of old number) (with_receipt receipt) old.queue.sealed)
     (acknowledged_tell old number bytes receipt out tells told)
     )
 
@@ -159,7 +189,8 @@ follow_rest end (suc n) [] follow = tt
 follow_rest end (suc n) (object ∷ list) follow = follow_rest object.end n list follow.1
 
 pub done_makes_image : DoneMakesImage
-done_makes_image volume data_at stream old new number bytes receipt image uploads are done out tells told ends has =
+done_makes_image volume data_at stream old new number bytes receipt tells image uploads are done out for_it told alike ends has
+    copied =
     let from = old.queue.frontier in
     let part = from_object from stream in
     let list = with_at (index_of old number) (with_receipt receipt) old.queue.sealed in
@@ -171,20 +202,34 @@ done_makes_image volume data_at stream old new number bytes receipt image upload
     let entries : settled_entries stream old.queue new.queue
     ≡ take (end_of_last old.queue.end (take done.count list) - old.queue.end) part.entries =
     ap (λ e. take (e - old.queue.end) part.entries) done.settled.end in
+    let copies = all_with (CopiedOf tells image from old.queue.maps) (index_of old number) (with_receipt receipt)
+    old.queue.sealed (λ s is. is) copied in
     let all = has_all volume stream done.count from old.queue.end part.entries (owners stream from) part.objects list
-    old.queue.receipts old.queue.maps new.queue.maps image (known_up_to old.uuid old.queue uploads.known) sealed follow
-    done.settled.acknowledged (acknowledged_tell old number bytes receipt out tells told) done.settled.within
-    (subst (All (EndsBy (length image))) entries ends) done.settled.maps has in
-    λ k sector at.
-    let held = all k sector (ap (λ es. slice_get (after image es) k) (sym entries) ∙ at) in
-    rw done.settled.receipts held
+    old.queue.receipts old.queue.maps new.queue.maps tells image (known_up_to old.uuid old.queue uploads.known) sealed follow
+    done.settled.acknowledged (acknowledged_tell old number bytes receipt out for_it told)
+    (subst (All (Tells tells)) done.settled.receipts alike.known) copies done.settled.within
+    (subst (All (EndsBy (length image))) entries ends) done.settled.maps has in (
+      λ k sector at.
+          (let held = all.0 k sector (ap (λ es. slice_get (after image es) k) (sym entries) ∙ at) in
+          rw done.settled.receipts held),
+      rw (entries, done.settled.frontier, done.settled.sealed) all.1,
+    )
 
 -- ---- an object that is adopted
 
 pub adopting_makes_image : AdoptingMakesImage
 adopting_makes_image volume end_before entries bytes rows end receipt old new image uploads is adopted tells ends has k sector
     at =
-    let held = has_data volume old.queue.frontier end_before receipt.size end entries bytes rows end old.queue.receipts receipt
-    old.queue.maps new.queue.maps image (known_up_to old.uuid old.queue uploads.known) is tells ends adopted.settled.maps has k
+    let held = has_data volume old.queue.frontier end_before receipt.size end entries bytes rows.items end old.queue.receipts
+    receipt old.queue.maps new.queue.maps image (known_up_to old.uuid old.queue uploads.known) is tells ends adopted.settled.maps
+    has k
     sector at in
+    rw adopted.settled.receipts held
+
+pub adopting_copy_keeps_image : AdoptingCopyKeepsImage
+adopting_copy_keeps_image volume end_before pairs bytes rows end receipt old new image uploads is adopted for_it copied has k
+    sector at =
+    let held = has_copy volume old.queue.frontier end_before receipt.size end pairs bytes rows.items old.queue.receipts receipt
+    old.queue.maps new.queue.maps image (known_up_to old.uuid old.queue uploads.known) is for_it copied adopted.settled.maps has
+    k sector at in
     rw adopted.settled.receipts held

@@ -7,17 +7,19 @@ use Rattle.std.proofs.Math.Seq.{take-length}
 use Rattle.lsvd_base.specs.declared.entry.Entry.{Entry}
 use Rattle.lsvd_objstore.specs.Store.{ReceiptState}
 use Rattle.object_format.specs.declared.expected.Expected.{Expected}
+use Rattle.object_format.specs.declared.copy_row.CopyRow.{CopyRow}
 use Rattle.object_format.specs.declared.data_row.DataRow.{DataRow}
 use Rattle.object_format.specs.declared.rows.Rows.{Rows}
 use Rattle.object_format.specs.declared.rows.Rows.TheVariants as rows
-use Rattle.object_format.specs.Rows.{may_stand, data_rows_may_stand}
+use Rattle.object_format.specs.Rows.{may_stand, data_rows_may_stand, copy_rows_may_stand}
 use Rattle.object_format.specs.declared.header.Header.{Header}
+use Rattle.object_stream.specs.declared.object.CopiedSector.{CopiedSector}
 use Rattle.object_stream.specs.declared.object.Content.{Content}
 use Rattle.object_stream.specs.declared.object.Content.TheVariants.{Data, Copy, Checkpoint}
 use Rattle.object_stream.specs.declared.object.StreamObject.{StreamObject}
 use Rattle.object_stream.specs.Changes.{change_at}
-use Rattle.object_stream.specs.Stream.{Owners, Stream, owner_by_change, after_object, after_objects, owners, end_after, end_at}
-use Rattle.object_stream.specs.Stream.{entries_in_object}
+use Rattle.object_stream.specs.Stream.{Owners, Stream, owner_by_change, owner_by_copy, source_in, after_object, after_objects}
+use Rattle.object_stream.specs.Stream.{owners, end_after, end_at}
 use Rattle.object_stream.specs.Stream.{last_number, objects_to, GoesTo, EndsFollow, IsStream}
 use Rattle.object_stream.specs.Replay.{expected_at}
 use Rattle.object_stream.specs.Laws.{from_object}
@@ -25,9 +27,10 @@ use Rattle.object_stream.proofs.StreamLemmas.{keeps_owners, goes_on, end_no_earl
 use Rattle.volume_maps.specs.declared.place.ObjectPlace.{ObjectPlace}
 use Rattle.volume_maps.specs.declared.place.LogPlace.{LogPlace}
 use Rattle.volume_maps.specs.Places.{object_on, log_on, left_at}
-use Rattle.volume_maps.specs.Maps.{MapsState, settled_by, logged_by, settled_at, logged_at}
+use Rattle.volume_maps.specs.Maps.{MapsState, settled_by, settled_by_copy, logged_by, settled_at, logged_at}
 use Rattle.volume_maps.specs.Laws.{place_owner, IsPlacedBy}
 use Rattle.volume_maps.proofs.SettleLemmas.{settles_as_replay, settles_places, log_keeps_later}
+use Rattle.volume_maps.proofs.CopyLemmas.{settles_copy_as_replay}
 use Rattle.volume_maps.proofs.RankLemmas.{places_are_ranks}
 use Rattle.extent_map.specs.Extents.{place_at}
 use Rattle.extent_map.specs.State.{MapState}
@@ -39,10 +42,12 @@ use Rattle.object_uploads.specs.Queue.{SettlesSealed, SettlesObjects}
 use Rattle.upload_window.specs.Window.{WindowState}
 use Rattle.object_uploads.specs.Order.{IsUploads}
 use Rattle.object_uploads.specs.Changes.{index_of, IsPutDone}
-use Rattle.object_uploads.specs.Stream.{AreRows, HoldsEntries, HoldsContent, IsPlacedIn, IsSealedOf}
+use Rattle.object_uploads.specs.Stream.{AreRows, HoldsEntries, AreCopyRows, HoldsCopy, HoldsContent, IsPlacedIn, IsSealedOf}
 use Rattle.object_uploads.specs.Stream.{AreSealedOf, AreOfStream}
 use Rattle.object_uploads.specs.Laws.{JobsKeepStream, DoneKeepsStream, RemovalsKeepStream}
-use Rattle.object_uploads.proofs.PlacedLemmas.{IsPosition, next_position, own_entries, placed_by_change, sealed_after_same}
+use Rattle.object_uploads.proofs.CopyRanks.{IsPlacedByCopy, placed_by_copy}
+use Rattle.object_uploads.proofs.PlacedLemmas.{IsPosition, next_position, own_entries, own_object, IsUnder, placed_by_change}
+use Rattle.object_uploads.proofs.PlacedLemmas.{placed_by_source, sealed_after_same}
 
 -- as many objects as there are sealed ones
 pub same_count : (stream : Stream) (volume : Expected) (number end : ℕ) (entries : List Entry) (owned : Owners)
@@ -154,14 +159,49 @@ module _ (volume : Expected) (number end_before : ℕ) (entries : List Entry) (e
 
   -- and leaves it where an object of the stream has it
   pub placed_of_entries : (stream : Stream) (k : ℕ) (before : Option ObjectPlace)
-      → entries ≡ entries_in_object stream number → IfSome before (IsPlacedIn stream k)
+      → IsUnder stream number Data entries → IfSome before (IsPlacedIn stream k)
       → IfSome (settled_by number items before k) (IsPlacedIn stream k)
-  placed_of_entries stream k before same was =
+  placed_of_entries stream k before under was =
       placed_by_change stream number k entries holds.payload (change_at entries k) before (settled_by number items before k)
       (subst (λ change. IsPlacedBy number holds.payload change before (settled_by number items before k)) (holds.changes k)
       (settles_places volume.sectors holds.header.payload number k items holds.payload before stand))
       (places_are_ranks volume.sectors holds.header.payload number k entries items holds.payload before stand holds.changes)
-      same was
+      under was
+
+-- the rows of a sealed copy may stand
+pub copies_stand : (sectors : ℕ) (header : Header) (rows_of : Rows) (items : List CopyRow) → AreCopyRows rows_of items
+    → IsTrue (may_stand sectors header rows_of)
+    → IsTrue (copy_rows_may_stand sectors header.payload header.number None 0 items)
+copies_stand sectors header (rows.Data list) items are may = absurd are
+copies_stand sectors header (rows.Copy list) items are may =
+    subst (λ rs. IsTrue (copy_rows_may_stand sectors header.payload header.number None 0 rs)) are may
+copies_stand sectors header rows.Checkpoint items are may = absurd are
+
+module _ (volume : Expected) (number end_before : ℕ) (pairs : List CopiedSector) (end : ℕ) (bytes : List ℕ)
+    (items : List CopyRow) (holds : HoldsCopy (expected_at volume number end_before) pairs end bytes items) where
+  pub copy_stands : IsTrue (copy_rows_may_stand volume.sectors holds.header.payload number None 0 items)
+  copy_stands =
+      let object = holds.parts.is_object in
+      subst (λ n. IsTrue (copy_rows_may_stand volume.sectors holds.header.payload n None 0 items)) object.head.number
+      (copies_stand volume.sectors holds.header holds.rows_of items holds.rows_are object.rows_are.spelling)
+
+  -- a copy that is settled gives a sector itself as its owner, where that still is the source
+  pub owner_of_copy : (k : ℕ) (before : Option ObjectPlace)
+      → place_owner (settled_by_copy number items before k) ≡ owner_by_copy number (source_in pairs k) (place_owner before)
+  owner_of_copy k before =
+      settles_copy_as_replay volume.sectors holds.header.payload number k items before copy_stands
+      ∙ ap (λ source. owner_by_copy number source (place_owner before)) (holds.sources k)
+
+  -- and leaves it where an object of the stream has it
+  pub place_of_copy : (k : ℕ) (before : Option ObjectPlace) → IsPlacedByCopy holds.header.payload number pairs items before k
+  place_of_copy k before =
+      placed_by_copy volume.sectors holds.header.payload number pairs items before k copy_stands holds.sources
+
+  pub placed_of_copy : (stream : Stream) (k : ℕ) (entries : List Entry) (before : Option ObjectPlace)
+      → IsUnder stream number (Copy pairs) entries → IfSome before (IsPlacedIn stream k)
+      → IfSome (settled_by_copy number items before k) (IsPlacedIn stream k)
+  placed_of_copy stream k entries before under was =
+      placed_by_source stream holds.header.payload number k pairs items entries before (place_of_copy k before) under was
 
 -- so does any sealed object
 pub settle_one : (stream : Stream) (volume : Expected) (k number end_before : ℕ) (content : Content) (entries : List Entry)
@@ -172,27 +212,23 @@ pub settle_one : (stream : Stream) (volume : Expected) (k number end_before : �
 settle_one stream volume k number end_before Data entries owned end bytes (sealed_rows.Data list) before holds same =
     owner_of_entries volume number end_before entries end bytes list.items holds k before
     ∙ ap (owner_by_change number (change_at entries k)) same
-settle_one stream volume k number end_before Data entries owned end bytes sealed_rows.Checkpoint before holds same = absurd holds
-settle_one stream volume k number end_before (Copy pairs) entries owned end bytes (sealed_rows.Data list) before holds same =
-    absurd holds
-settle_one stream volume k number end_before (Copy pairs) entries owned end bytes sealed_rows.Checkpoint before holds same =
-    absurd holds
-settle_one stream volume k number end_before Checkpoint entries owned end bytes (sealed_rows.Data list) before holds same =
-    absurd holds
+settle_one stream volume k number end_before (Copy pairs) entries owned end bytes (sealed_rows.Copy list) before holds same =
+    owner_of_copy volume number end_before pairs end bytes list.items holds k before
+    ∙ ap (owner_by_copy number (source_in pairs k)) same
 settle_one stream volume k number end_before Checkpoint entries owned end bytes sealed_rows.Checkpoint before holds same = same
+settle_one stream volume k number end_before content entries owned end bytes rows_of before holds same = absurd holds
 
 place_one : (stream : Stream) (volume : Expected) (k number end_before : ℕ) (content : Content) (entries : List Entry)
     (owned : Owners) (end : ℕ) (bytes : List ℕ) (rows_of : SealedRows) (before : Option ObjectPlace)
     → HoldsContent stream (expected_at volume number end_before) content entries owned end bytes rows_of
-    → entries ≡ entries_in_object stream number → IfSome before (IsPlacedIn stream k)
+    → IsUnder stream number content entries → IfSome before (IsPlacedIn stream k)
     → IfSome (settled_by_rows number rows_of before k) (IsPlacedIn stream k)
-place_one stream volume k number end_before Data entries owned end bytes (sealed_rows.Data list) before holds same was =
-    placed_of_entries volume number end_before entries end bytes list.items holds stream k before same was
-place_one stream volume k number end_before content entries owned end bytes sealed_rows.Checkpoint before holds same was = was
-place_one stream volume k number end_before (Copy pairs) entries owned end bytes (sealed_rows.Data list) before holds same was =
-    absurd holds
-place_one stream volume k number end_before Checkpoint entries owned end bytes (sealed_rows.Data list) before holds same was =
-    absurd holds
+place_one stream volume k number end_before Data entries owned end bytes (sealed_rows.Data list) before holds under was =
+    placed_of_entries volume number end_before entries end bytes list.items holds stream k before under was
+place_one stream volume k number end_before (Copy pairs) entries owned end bytes (sealed_rows.Copy list) before holds under was =
+    placed_of_copy volume number end_before pairs end bytes list.items holds stream k entries before under was
+place_one stream volume k number end_before Checkpoint entries owned end bytes sealed_rows.Checkpoint before holds under was = was
+place_one stream volume k number end_before content entries owned end bytes rows_of before holds under was = absurd holds
 
 module _ (stream : Stream) (volume : Expected) (k : ℕ) where
   -- the first of sealed objects, once they are settled
@@ -227,13 +263,19 @@ module _ (stream : Stream) (volume : Expected) (k : ℕ) where
       (after_object (number + 1) object.content part owned) list sealed (settled_by_rows (number + 1) first.rows before k) are.1
       (next_position stream number end entries object list at)
       (place_one stream volume k (number + 1) end object.content part owned object.end first.bytes first.rows before are.0.holds
-      (own_entries stream number end entries object list at) was)
+      (record {
+        object = object;
+        there = own_object stream number end entries object list at;
+        content_is = refl;
+        entries_are = own_entries stream number end entries object list at;
+      }) was)
 
 -- what the settling of objects does to the objects' map
 maps_one : (number size : ℕ) (rows_of : SealedRows) (end : ℕ) (old new : MapsState) → SettlesSealed number size rows_of end old
     new
     → (k : ℕ) → settled_at new k ≡ settled_by_rows number rows_of (settled_at old k) k
 maps_one number size (sealed_rows.Data list) end old new settles k = settles.settled k
+maps_one number size (sealed_rows.Copy list) end old new settles k = settles.settled k
 maps_one number size sealed_rows.Checkpoint end old new settles k = same_settled old new settles.settled k
 
 pub maps_all : (number : ℕ) (sealed : List SealedState) (old new : MapsState) → SettlesObjects number sealed old new
@@ -262,6 +304,13 @@ module _ (stream : Stream) (volume : Expected) (data_at : ℕ → ℕ) where
       ∙ (ap (λ es. logged_by (end_before + length part) items (left_at data_at end_before es k) k) (sym whole)
       ∙ (kept ∙ ap (λ e. left_at data_at e rest k) size))
 
+  -- an object without entries leaves them all
+  none_logged : (end_before end : ℕ) (entries : List Entry) (k : ℕ) → end ≡ end_before
+      → left_at data_at end_before entries k ≡ left_at data_at end (drop (end - end_before) entries) k
+  none_logged end_before end entries k goes =
+      let none : 0 ≡ end - end_before = omega (arith, goes) in
+      ap (λ e. left_at data_at e entries k) (sym goes) ∙ ap (λ n. left_at data_at end (drop n entries) k) none
+
   log_one : (number size end_before : ℕ) (content : Content) (entries : List Entry) (owned : Owners) (end : ℕ) (bytes : List ℕ)
       (rows_of : SealedRows) (old new : MapsState)
       → HoldsContent stream (expected_at volume number end_before) content (take (end - end_before) entries) owned end bytes
@@ -273,24 +322,13 @@ module _ (stream : Stream) (volume : Expected) (data_at : ℕ → ℕ) where
       settles.logged k
       ∙ (ap (λ p. logged_by end list.items p k) (same k)
       ∙ entries_logged number end_before entries end bytes list.items k holds (goes_on Data end_before end goes) within)
-  log_one number size end_before Data entries owned end bytes sealed_rows.Checkpoint old new holds goes within settles same k =
-      absurd holds
-  log_one number size end_before (Copy pairs) entries owned end bytes (sealed_rows.Data list) old new holds goes within settles
+  log_one number size end_before (Copy pairs) entries owned end bytes (sealed_rows.Copy list) old new holds goes within settles
       same k =
-      absurd holds
-  log_one number size end_before (Copy pairs) entries owned end bytes sealed_rows.Checkpoint old new holds goes within settles
-      same
-      k =
-      absurd holds
-  log_one number size end_before Checkpoint entries owned end bytes (sealed_rows.Data list) old new holds goes within settles same
-      k =
-      absurd holds
+      settles.logged k ∙ (same k ∙ none_logged end_before end entries k goes)
   log_one number size end_before Checkpoint entries owned end bytes sealed_rows.Checkpoint old new holds goes within settles same
       k =
-      let none : 0 ≡ end - end_before = omega (arith, goes) in
-      same_logged old new settles.log k
-      ∙ (same k
-      ∙ (ap (λ e. left_at data_at e entries k) (sym goes) ∙ ap (λ n. left_at data_at end (drop n entries) k) none))
+      same_logged old new settles.log k ∙ (same k ∙ none_logged end_before end entries k goes)
+  log_one number size end_before content entries owned end bytes rows_of old new holds goes within settles same k = absurd holds
 
 -- what is left past the objects that are settled
 pub record IsLeftOf (stream : Stream) (volume : Expected) (data_at : ℕ → ℕ) (count number end : ℕ) (entries : List Entry)

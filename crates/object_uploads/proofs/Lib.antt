@@ -2,12 +2,14 @@ pub mod RoomLemmas
 pub mod QueueLemmas
 pub mod OpenLemmas
 pub mod BegunLemmas
+pub mod TellLemmas
 pub mod NamesKept
 pub mod PlacesKept
 pub mod WaitingKept
 pub mod UploadsKept
 pub mod FoundKept
 pub mod TakenKept
+pub mod CopyRanks
 pub mod PlacedLemmas
 pub mod KeepLemmas
 pub mod GrowLemmas
@@ -18,9 +20,12 @@ pub mod WholeLemmas
 pub mod StoredLemmas
 pub mod HoldLemmas
 pub mod RemovalImage
+pub mod CopyImage
 pub mod SettleImage
+pub mod SettleAllImage
 pub mod ImageLemmas
 pub mod AdoptLemmas
+pub mod AdoptCopy
 pub mod ReceiptLemmas
 pub mod RemovedLemmas
 pub mod DeadLemmas
@@ -34,3 +39,5 @@ pub mod SealedMapLemmas
 pub mod CheckpointLemmas
 pub mod PinsOf
 pub mod NewestLemmas
+pub mod PlanLemmas
+pub mod MarkLemmas

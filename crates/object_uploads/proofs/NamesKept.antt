@@ -1,5 +1,5 @@
 -- What the store gave for objects has their names.
-use Rattle.std.proofs.Common.{◌≡◌, ℕ, zero, suc, ◌+◌, ◌==◌, nat_lt, Bool, true, false, cond, Option, Some, None, List, []}
+use Rattle.std.proofs.Common.{◌≡◌, ℕ, zero, suc, ◌+◌, ◌==◌, Bool, true, false, Option, Some, None, List, []}
 use Rattle.std.proofs.Common.{◌∷◌, ◌++◌, take, drop, refl, sym, ◌∙◌, ap, subst, arith}
 use Rattle.std.specs.Prelude.{IfSome, map, option_to_list}
 use Rattle.std.specs.List.{All}
@@ -11,6 +11,7 @@ use Rattle.object_uploads.specs.State.{SealedState, NumberedReceipt}
 use Rattle.object_uploads.specs.Queue.{with_at, with_receipt, receipts_of, receipt_in}
 use Rattle.object_uploads.specs.Removal.{without_receipt, with_receipt_of}
 use Rattle.object_uploads.specs.Order.{HaveNames}
+use Rattle.object_uploads.proofs.TellLemmas.{all_without_receipt, all_with_receipt}
 
 -- ---- those past the frontier
 
@@ -94,34 +95,14 @@ module _ (uuid : List ℕ) where
       All-push IsNamed receipts (record { number = number; receipt = receipt }) named is
 
   -- without that of a number, and with it again
-  without_test : (test : Bool) (first : NumberedReceipt) (rest kept : List NumberedReceipt) → All IsNamed (first ∷ rest)
-      → All IsNamed kept → All IsNamed (cond test rest (first ∷ kept))
-  without_test true first rest kept named of_kept = All-tail IsNamed first rest named
-  without_test false first rest kept named of_kept = All-cons IsNamed first kept (All-head IsNamed first rest named) of_kept
-
   pub named_without : (number : ℕ) (receipts : List NumberedReceipt) → All IsNamed receipts
       → All IsNamed (without_receipt number receipts)
-  named_without number [] named = named
-  named_without number (first ∷ rest) named =
-      without_test (first.number == number) first rest (without_receipt number rest) named
-      (named_without number rest (All-tail IsNamed first rest named))
-
-  with_test : (test : Bool) (own first : NumberedReceipt) (rest kept : List NumberedReceipt) → IsNamed own
-      → All IsNamed (first ∷ rest) → All IsNamed kept
-      → All IsNamed (cond test (own ∷ first ∷ rest) (first ∷ kept))
-  with_test true own first rest kept is named of_kept = All-cons IsNamed own (first ∷ rest) is named
-  with_test false own first rest kept is named of_kept =
-      All-cons IsNamed first kept (All-head IsNamed first rest named) of_kept
+  named_without number receipts named = all_without_receipt IsNamed number receipts named
 
   pub named_with : (number : ℕ) (receipt : ReceiptState) (receipts : List NumberedReceipt)
       → receipt.name ≡ numbered_name uuid number → All IsNamed receipts
       → All IsNamed (with_receipt_of number receipt receipts)
-  named_with number receipt [] is named =
-      All-cons IsNamed (record { number = number; receipt = receipt }) [] is (All-nil IsNamed)
-  named_with number receipt (first ∷ rest) is named =
-      with_test (nat_lt number first.number) (record { number = number; receipt = receipt }) first rest
-      (with_receipt_of number receipt rest) is named
-      (named_with number receipt rest is (All-tail IsNamed first rest named))
+  named_with number receipt receipts is named = all_with_receipt IsNamed number receipt receipts is named
 
   -- so has the one of a number
   in_test : (test : Bool) (number : ℕ) (first : NumberedReceipt) (rest : List NumberedReceipt) (receipt : ReceiptState)

@@ -1,30 +1,38 @@
 -- Where the objects of a stream have their sectors, while the stream grows and while its objects are settled.
-use Rattle.std.proofs.Common.{◌≡◌, ℕ, zero, suc, ◌+◌, ◌-◌, ◌<◌, ◌≤◌, Option, Some, None, List, [], ◌∷◌, ◌++◌, length, take, drop}
+use Rattle.std.proofs.Common.{◌≡◌, ℕ, zero, suc, ◌+◌, ◌-◌, ◌<◌, ◌≤◌, cond, Bool, true, false, Option, Some, None, List, [], ◌∷◌}
+use Rattle.std.proofs.Common.{◌++◌, length, take, drop}
 use Rattle.std.proofs.Common.{refl, sym, ◌∙◌, ap, subst, arith, length-drop}
 use Rattle.std.specs.Prelude.{IsTrue, IfSome}
+use Rattle.std.specs.List.{slice_get}
 use Rattle.std.proofs.lemmas.List.{drop-drop, take-append-le, drop-append-le}
 use Rattle.lsvd_base.specs.declared.entry.Entry.{Entry}
+use Rattle.extent_map.proofs.CutTwice.{get_drop}
+use Rattle.object_format.specs.declared.copy_row.CopyRow.{CopyRow}
 use Rattle.object_format.specs.declared.expected.Expected.{Expected}
 use Rattle.object_stream.specs.declared.change.Change.{Change}
 use Rattle.object_stream.specs.declared.change.Change.TheVariants.{Put, Clear}
+use Rattle.object_stream.specs.declared.object.CopiedSector.{CopiedSector}
 use Rattle.object_stream.specs.declared.object.Content.{Content}
 use Rattle.object_stream.specs.declared.object.Content.TheVariants.{Data, Copy, Checkpoint}
 use Rattle.object_stream.specs.declared.object.StreamObject.{StreamObject}
 use Rattle.object_stream.specs.declared.owner.Owner.{Owner}
 use Rattle.object_stream.specs.Changes.{change_at, is_put, place_in_payload}
 use Rattle.object_stream.specs.Stream.{Owners, Stream, owner_by_change, source_in, owner_by_copy, after_object, after_objects}
-use Rattle.object_stream.specs.Stream.{entries_in_object}
+use Rattle.object_stream.specs.Stream.{is_own, entries_in_object}
 use Rattle.object_stream.specs.Stream.{objects_to, end_after, end_at, last_number, EndsFollow, IsStream}
 use Rattle.object_stream.specs.Replay.{expected_at}
 use Rattle.object_stream.proofs.StreamLemmas.{goes_on, end_no_earlier, follow_first}
 use Rattle.volume_maps.specs.declared.place.ObjectPlace.{ObjectPlace}
-use Rattle.volume_maps.specs.Maps.{MapsState, settled_at}
-use Rattle.volume_maps.specs.Laws.{place_owner, IsPlacedBy}
+use Rattle.volume_maps.specs.Maps.{MapsState, settled_at, settled_by_copy}
+use Rattle.volume_maps.specs.Laws.{place_owner, IsPlacedBy, is_in_source}
 use Rattle.object_uploads.specs.declared.rows.SealedRows.{SealedRows}
 use Rattle.object_uploads.specs.declared.rows.SealedRows.TheVariants as sealed_rows
 use Rattle.object_uploads.specs.State.{SealedState}
 use Rattle.object_uploads.specs.Order.{PlaceFits, PlacesFit}
-use Rattle.object_uploads.specs.Stream.{IsPlacedIn, HoldsOwners, HoldsContent, IsSealedOf, AreSealedOf}
+use Rattle.object_stream.specs.Stream.{place_in_copy, place_in_object}
+use Rattle.object_uploads.specs.Stream.{object_at, IsPlacedIn, HoldsOwners, HoldsContent}
+use Rattle.object_uploads.specs.Stream.{IsSealedOf, AreSealedOf}
+use Rattle.object_uploads.proofs.CopyRanks.{IsPlacedByCopy}
 
 -- ---- owners and places up to a number
 
@@ -62,6 +70,19 @@ up_to_more : (number : ℕ) (before : Option Owner) → IfSome before (λ (owner
 up_to_more number None low = tt
 up_to_more number (Some owner) low = omega (arith, low)
 
+up_to_test : (test : Bool) (number : ℕ) (before : Option Owner) → IfSome before (λ (owner : Owner). owner.number ≤ number + 1)
+    → IfSome (cond test (Some (record { level = 0; number = number + 1 })) before)
+    (λ (owner : Owner). owner.number ≤ number + 1)
+up_to_test true number before low = omega arith
+up_to_test false number before low = low
+
+up_to_copy : (number : ℕ) (source : Option ℕ) (before : Option Owner)
+    → IfSome before (λ (owner : Owner). owner.number ≤ number)
+    → IfSome (owner_by_copy (number + 1) source before) (λ (owner : Owner). owner.number ≤ number + 1)
+up_to_copy number None before low = up_to_more number before low
+up_to_copy number (Some source) before low =
+    up_to_test (is_own source before) number before (up_to_more number before low)
+
 -- after a sealed object they are up to its number
 pub up_to_object : (stream : Stream) (expected : Expected) (number : ℕ) (content : Content) (entries : List Entry)
     (owned : Owners)
@@ -69,12 +90,11 @@ pub up_to_object : (stream : Stream) (expected : Expected) (number : ℕ) (conte
     → AreUpTo number owned → AreUpTo (number + 1) (after_object (number + 1) content entries owned)
 up_to_object stream expected number Data entries owned end bytes (sealed_rows.Data list) holds low k =
     up_to_change number (change_at entries k) (owned k) (low k)
-up_to_object stream expected number Data entries owned end bytes sealed_rows.Checkpoint holds low k = absurd holds
-up_to_object stream expected number (Copy pairs) entries owned end bytes (sealed_rows.Data list) holds low k = absurd holds
-up_to_object stream expected number (Copy pairs) entries owned end bytes sealed_rows.Checkpoint holds low k = absurd holds
-up_to_object stream expected number Checkpoint entries owned end bytes (sealed_rows.Data list) holds low k = absurd holds
+up_to_object stream expected number (Copy pairs) entries owned end bytes (sealed_rows.Copy list) holds low k =
+    up_to_copy number (source_in pairs k) (owned k) (low k)
 up_to_object stream expected number Checkpoint entries owned end bytes sealed_rows.Checkpoint holds low k =
     up_to_more number (owned k) (low k)
+up_to_object stream expected number content entries owned end bytes rows holds low k = absurd holds
 
 -- and after all of them up to the last one's
 pub up_to_all : (stream : Stream) (volume : Expected) (number end : ℕ) (entries : List Entry) (owned : Owners)
@@ -106,16 +126,14 @@ same_content : (stream : Stream) (expected : Expected) (content : Content) (entr
     → HoldsContent stream expected content entries owned end bytes rows
     → HoldsContent stream expected content entries others end bytes rows
 same_content stream expected Data entries owned others end bytes (sealed_rows.Data list) same holds = holds
-same_content stream expected Data entries owned others end bytes sealed_rows.Checkpoint same holds = absurd holds
-same_content stream expected (Copy pairs) entries owned others end bytes (sealed_rows.Data list) same holds = absurd holds
-same_content stream expected (Copy pairs) entries owned others end bytes sealed_rows.Checkpoint same holds = absurd holds
-same_content stream expected Checkpoint entries owned others end bytes (sealed_rows.Data list) same holds = absurd holds
+same_content stream expected (Copy pairs) entries owned others end bytes (sealed_rows.Copy list) same holds = holds
 same_content stream expected Checkpoint entries owned others end bytes sealed_rows.Checkpoint same holds = record {
   places = holds.places;
   holds = holds.holds;
   owners_are = λ k. holds.owners_are k ∙ same k;
   placed = holds.placed;
 }
+same_content stream expected content entries owned others end bytes rows same holds = absurd holds
 
 -- a sealed object is one of a stream after owners that are the same
 pub one_after_same : (stream : Stream) (expected : Expected) (entries : List Entry) (owned others : Owners)
@@ -147,7 +165,17 @@ sealed_after_same stream volume number end entries owned others (object ∷ list
 -- a stream has the objects of another up to its last, each with the entries that it had
 pub record HasSameEntries (old new : Stream) : Type 0 where
   pub number : new.number ≡ old.number
+  pub objects : (n : ℕ) → old.number < n → n ≤ last_number old → object_at new n ≡ object_at old n
   pub entries : (n : ℕ) → n ≤ last_number old → entries_in_object new n ≡ entries_in_object old n
+
+-- a stream has its own
+pub has_its_own : (stream : Stream) → HasSameEntries stream stream
+has_its_own stream = record { number = refl; objects = λ n past low. refl; entries = λ n low. refl }
+
+-- a place is where an object, with these entries where it is a data object, has the sector
+abbrev pub IsPlaceIn : (place k : ℕ) → List Entry → Option StreamObject → Type 0
+IsPlaceIn place k entries object =
+    IfSome object (λ (o : StreamObject). place ≡ place_in_object o.content entries k)
 
 -- so a place that is in one of these stays where the object has the sector
 pub placed_still : (old new : Stream) (k : ℕ) (place : Option ObjectPlace) → HasSameEntries old new
@@ -155,8 +183,11 @@ pub placed_still : (old new : Stream) (k : ℕ) (place : Option ObjectPlace) →
     → IfSome place (IsPlacedIn new k)
 placed_still old new k None same low is = tt
 placed_still old new k (Some place) same low is = λ own past.
-    is own (subst (λ n. n < place.number) same.number past)
-    ∙ ap (λ es. place_in_payload es k) (sym (same.entries place.number low))
+    let n = place.number in
+    let was_past : old.number < n = subst (λ m. m < n) same.number past in
+    let now : IsPlaceIn place.sector k (entries_in_object new n) (object_at old n) =
+    subst (λ es. IsPlaceIn place.sector k es (object_at old n)) (sym (same.entries n low)) (is own was_past) in
+    subst (IsPlaceIn place.sector k (entries_in_object new n)) (sym (same.objects n was_past low)) now
 
 fits_low : (sectors last most k : ℕ) (place : Option ObjectPlace) → last ≤ most → IfSome place (PlaceFits sectors last k)
     → IfSome place (λ (p : ObjectPlace). p.number ≤ most)
@@ -196,15 +227,10 @@ content_still : (old new : Stream) (expected : Expected) (content : Content) (en
     → HoldsContent old expected content entries owned end bytes rows → HoldsContent new expected content entries owned end bytes
     rows
 content_still old new expected Data entries owned number end bytes (sealed_rows.Data list) same within low holds = holds
-content_still old new expected Data entries owned number end bytes sealed_rows.Checkpoint same within low holds = absurd holds
-content_still old new expected (Copy pairs) entries owned number end bytes (sealed_rows.Data list) same within low holds =
-    absurd holds
-content_still old new expected (Copy pairs) entries owned number end bytes sealed_rows.Checkpoint same within low holds =
-    absurd holds
-content_still old new expected Checkpoint entries owned number end bytes (sealed_rows.Data list) same within low holds =
-    absurd holds
+content_still old new expected (Copy pairs) entries owned number end bytes (sealed_rows.Copy list) same within low holds = holds
 content_still old new expected Checkpoint entries owned number end bytes sealed_rows.Checkpoint same within low holds =
     owners_still old new expected owned number end bytes same within low holds
+content_still old new expected content entries owned number end bytes rows same within low holds = absurd holds
 
 -- and so do sealed objects
 pub sealed_still : (old new : Stream) (volume : Expected) (number end : ℕ) (entries : List Entry) (owned : Owners)
@@ -265,6 +291,7 @@ pub longer_same : (stream : Stream) (more : List Entry) → IsStream stream
     → end_after stream.end stream.objects ≡ end_at stream (last_number stream) → HasSameEntries stream (longer more stream)
 longer_same stream more valid last = record {
   number = refl;
+  objects = λ n past low. refl;
   entries = λ n low.
       part_of_more (end_at stream (n - 1)) (end_at stream n) stream.end stream.entries more (no_earlier stream (n - 1) valid)
       (end_within_entries stream (n - 1) valid last) (end_within_entries stream n valid last);
@@ -275,9 +302,15 @@ pub end_with_objects : (stream : Stream) (more : List StreamObject) (n : ℕ) �
 end_with_objects stream more n low =
     ap (end_after stream.end) (take-append-le (n - stream.number) stream.objects more (omega (arith, low)))
 
+pub get_append : {X : Type 0} (i : ℕ) (first more : List X) → i < length first → slice_get (first ++ more) i ≡ slice_get first i
+get_append i [] more low = absurd (omega arith)
+get_append zero (x ∷ first) more low = refl
+get_append (suc i) (x ∷ first) more low = get_append i first more (omega arith)
+
 pub objects_same : (stream : Stream) (more : List StreamObject) → HasSameEntries stream (with_objects more stream)
 objects_same stream more = record {
   number = refl;
+  objects = λ n past low. get_append (n - (stream.number + 1)) stream.objects more (omega (arith, past, low));
   entries = λ n low.
       ap (λ e. take (e - end_at (with_objects more stream) (n - 1))
       (drop (end_at (with_objects more stream) (n - 1) - stream.end) stream.entries)) (end_with_objects stream more n low)
@@ -288,8 +321,21 @@ objects_same stream more = record {
 pub both_same : (a b c : Stream) → HasSameEntries a b → HasSameEntries b c → last_number a ≤ last_number b → HasSameEntries a c
 both_same a b c first next within = record {
   number = next.number ∙ first.number;
+  objects = λ n past low.
+      next.objects n (subst (λ m. m < n) (sym first.number) past) (omega (arith, low, within)) ∙ first.objects n past low;
   entries = λ n low. next.entries n (omega (arith, low, within)) ∙ first.entries n low;
 }
+
+pub get_last : {X : Type 0} (first : List X) (last : X) → slice_get (first ++ last ∷ []) (length first) ≡ Some last
+get_last [] last = refl
+get_last (x ∷ first) last = get_last first last
+
+-- the last object is under the last number
+pub last_object : (stream : Stream) (object : StreamObject) (number : ℕ) → number ≡ last_number stream + 1
+    → object_at (with_objects (object ∷ []) stream) number ≡ Some object
+last_object stream object number last =
+    let index : number - (stream.number + 1) ≡ length stream.objects = omega (arith, last) in
+    ap (slice_get (stream.objects ++ object ∷ [])) index ∙ get_last stream.objects object
 
 -- ---- a position in a stream
 
@@ -355,16 +401,60 @@ own_entries stream number end entries object list at =
     ∙ ap (λ e. take (end_at stream (number + 1) - e) (drop (e - stream.end) stream.entries))
     (at.end_is ∙ ap (end_at stream) before))
 
+-- and is the one that the stream has under its number
+pub own_object : (stream : Stream) (number end : ℕ) (entries : List Entry) (object : StreamObject) (list : List StreamObject)
+    → IsPosition stream number end entries (object ∷ list) → object_at stream (number + 1) ≡ Some object
+own_object stream number end entries object list at =
+    let index : number + 1 - (stream.number + 1) ≡ number - stream.number = omega arith in
+    ap (slice_get stream.objects) index
+    ∙ (sym (get_drop (number - stream.number) stream.objects) ∙ sym (ap (λ os. slice_get os 0) at.objects_are))
+
 -- ---- an object that is settled
 
--- after an object of a stream that does this to a sector, the sector is where an object has it
+-- an object of this content, with these entries where it is a data object, is what a stream has under a number
+pub record IsUnder (stream : Stream) (number : ℕ) (content : Content) (entries : List Entry) : Type 0 where
+  pub object : StreamObject
+  pub there : object_at stream number ≡ Some object
+  pub content_is : object.content ≡ content
+  pub entries_are : entries ≡ entries_in_object stream number
+
+-- a sector that it has is at its place there
+pub is_at_place : (stream : Stream) (number k : ℕ) (content : Content) (entries : List Entry)
+    → IsUnder stream number content entries
+    → IsPlaceIn (place_in_object content entries k) k (entries_in_object stream number) (object_at stream number)
+is_at_place stream number k content entries is =
+    let place = place_in_object content entries k in
+    let own : place ≡ place_in_object is.object.content (entries_in_object stream number) k =
+    ap (λ c. place_in_object c entries k) (sym is.content_is)
+    ∙ ap (λ es. place_in_object is.object.content es k) is.entries_are in
+    subst (IsPlaceIn place k (entries_in_object stream number)) (sym is.there) own
+
+-- after a data object of a stream that does this to a sector, the sector is where an object has it
 pub placed_by_change : (stream : Stream) (number k : ℕ) (entries : List Entry) (payload : List ℕ) (change : Option Change)
     (before after : Option ObjectPlace) → IsPlacedBy number payload change before after
     → (IsTrue (is_put change) → after ≡ Some (record { level = 0; number = number; sector = place_in_payload entries k }))
-    → entries ≡ entries_in_object stream number → IfSome before (IsPlacedIn stream k) → IfSome after (IsPlacedIn stream k)
-placed_by_change stream number k entries payload None before after is put same was =
+    → IsUnder stream number Data entries → IfSome before (IsPlacedIn stream k) → IfSome after (IsPlacedIn stream k)
+placed_by_change stream number k entries payload None before after is put under was =
     subst (λ p. IfSome p (IsPlacedIn stream k)) (sym is) was
-placed_by_change stream number k entries payload (Some Clear) before after is put same was =
+placed_by_change stream number k entries payload (Some Clear) before after is put under was =
     subst (λ p. IfSome p (IsPlacedIn stream k)) (sym is) tt
-placed_by_change stream number k entries payload (Some (Put sector)) before after is put same was =
-    subst (λ p. IfSome p (IsPlacedIn stream k)) (sym (put refl)) (λ own past. ap (λ es. place_in_payload es k) same)
+placed_by_change stream number k entries payload (Some (Put sector)) before after is put under was =
+    subst (λ p. IfSome p (IsPlacedIn stream k)) (sym (put refl))
+    (λ own past. is_at_place stream number k Data entries under)
+
+-- so it is after a copy
+placed_by_test : (test : Bool) (stream : Stream) (number k : ℕ) (pairs : List CopiedSector) (entries : List Entry)
+    (before : Option ObjectPlace) → IsUnder stream number (Copy pairs) entries → IfSome before (IsPlacedIn stream k)
+    → IfSome (cond test (Some (record { level = 0; number = number; sector = place_in_copy pairs k })) before)
+    (IsPlacedIn stream k)
+placed_by_test true stream number k pairs entries before under was =
+    λ own past. is_at_place stream number k (Copy pairs) entries under
+placed_by_test false stream number k pairs entries before under was = was
+
+pub placed_by_source : (stream : Stream) (payload number k : ℕ) (pairs : List CopiedSector) (rows : List CopyRow)
+    (entries : List Entry) (before : Option ObjectPlace) → IsPlacedByCopy payload number pairs rows before k
+    → IsUnder stream number (Copy pairs) entries → IfSome before (IsPlacedIn stream k)
+    → IfSome (settled_by_copy number rows before k) (IsPlacedIn stream k)
+placed_by_source stream payload number k pairs rows entries before is under was =
+    subst (λ p. IfSome p (IsPlacedIn stream k)) (sym is.settled)
+    (placed_by_test (is_in_source (source_in pairs k) before) stream number k pairs entries before under was)

@@ -1,22 +1,25 @@
 -- The places of sectors stay inside the volume and its objects while objects are settled.
-use Rattle.std.proofs.Common.{◌≡◌, ℕ, zero, suc, ◌+◌, ◌-◌, ◌<◌, ◌≤◌, ◌^◌, Bool, true, false, cond, Option}
+use Rattle.std.proofs.Common.{◌≡◌, ℕ, zero, suc, ◌+◌, ◌-◌, ◌<◌, ◌≤◌, ◌^◌, ◌&&◌, Bool, true, false, cond, Option}
 use Rattle.std.proofs.Common.{Some, None, List, [], ◌∷◌, length, take, refl, sym, ap, subst, arith}
 use Rattle.std.specs.Prelude.{IfSome}
 use Rattle.std.specs.List.{AllByRecursion}
 use Rattle.std.proofs.lemmas.Bool.Decides.{nat_tests}
 use Rattle.extent_map.specs.declared.extent.Extent.{Extent}
 use Rattle.extent_map.specs.Extents.{is_within, place_after_set}
+use Rattle.object_format.specs.declared.copy_row.CopyRow.{CopyRow}
 use Rattle.object_format.specs.declared.data_row.DataRow.{DataRow}
 use Rattle.volume_maps.specs.declared.place.ObjectPlace.{ObjectPlace}
 use Rattle.volume_maps.specs.Places.{object_on}
-use Rattle.volume_maps.specs.Maps.{MapsState, RowsFit, row_object_place, settled_by_row, settled_by, settled_at}
+use Rattle.volume_maps.specs.Live.{is_live}
+use Rattle.volume_maps.specs.Maps.{MapsState, RowsFit, CopyRowsFit, row_object_place, settled_by_row, settled_by, settled_at}
+use Rattle.volume_maps.specs.Maps.{settled_by_copy_row, settled_by_copy}
 use Rattle.object_uploads.specs.declared.rows.SealedRows.{SealedRows}
-use Rattle.object_uploads.specs.declared.rows.SealedRows.TheVariants.{Data, Checkpoint}
+use Rattle.object_uploads.specs.declared.rows.SealedRows.TheVariants.{Data, Copy, Checkpoint}
 use Rattle.object_uploads.specs.State.{SealedState}
-use Rattle.object_uploads.specs.Queue.{FitsVolume, FitObject, FitSealed, settled_by_rows, settled_by_all, SettlesSealed}
-use Rattle.object_uploads.specs.Queue.{SettlesObjects}
+use Rattle.object_uploads.specs.Queue.{FitsVolume, FitObject, CopyFitsVolume, FitCopy, FitSealed, settled_by_rows}
+use Rattle.object_uploads.specs.Queue.{settled_by_all, SettlesSealed, SettlesObjects}
 use Rattle.object_uploads.specs.Order.{PlaceFits, PlacesFit}
-use Rattle.object_uploads.specs.Invariant.{MapsCanTake}
+use Rattle.object_uploads.specs.Invariant.{MapsCanTake, MapsCanCopy, MaySettle}
 
 -- ---- rows that fit a volume fit the maps
 
@@ -39,6 +42,25 @@ rows_take sectors (row ∷ rows) low fit =
 
 pub maps_can_take : (sectors : ℕ) (rows : List DataRow) → sectors ≤ 2147483648 → FitObject sectors rows → MapsCanTake rows
 maps_can_take sectors rows low fit = record { count = fit.count; fit = rows_take sectors rows low fit.fit }
+
+copies_take : (sectors : ℕ) (rows : List CopyRow) → sectors ≤ 2147483648 → AllByRecursion (CopyFitsVolume sectors) rows
+    → CopyRowsFit rows
+copies_take sectors [] low fit = tt
+copies_take sectors (row ∷ rows) low fit =
+    let inside : row.lba + row.sectors ≤ 2147483648 = omega (arith, fit.0.sectors_are, low) in (
+      record { sectors = small (row.lba + row.sectors) inside; place = omega (arith, fit.0.place) },
+      copies_take sectors rows low fit.1,
+    )
+
+pub maps_can_copy : (sectors : ℕ) (rows : List CopyRow) → sectors ≤ 2147483648 → FitCopy sectors rows → MapsCanCopy rows
+maps_can_copy sectors rows low fit =
+    record { count = fit.count; copied = fit.copied; fit = copies_take sectors rows low fit.fit }
+
+-- so any that fit may be settled
+pub may_settle : (sectors : ℕ) (rows : SealedRows) → sectors ≤ 2147483648 → FitSealed sectors rows → MaySettle rows
+may_settle sectors (Data list) low fit = maps_can_take sectors list.items low fit
+may_settle sectors (Copy list) low fit = maps_can_copy sectors list.items low fit
+may_settle sectors Checkpoint low fit = tt
 
 -- ---- a data object
 
@@ -75,16 +97,47 @@ module _ (sectors : ℕ) where
       rows_fit number k rows (settled_by_row number row before k) fit.1
       (row_test (is_within row.lba row.sectors k) number k row before fit.0 refl of_before)
 
-  pub object_fits : (number k : ℕ) (rows : List DataRow) (before : Option ObjectPlace) → FitObject sectors rows
+  object_fits : (number k : ℕ) (rows : List DataRow) (before : Option ObjectPlace) → FitObject sectors rows
       → Fits sectors number k before → Fits sectors (number + 1) k (settled_by (number + 1) rows before k)
   object_fits number k rows before fit of_before =
       rows_fit (number + 1) k rows before fit.fit (fits_later number (number + 1) k before (omega arith) of_before)
 
+  -- ---- a copy
+
+  copied_test : (within live : Bool) (number k : ℕ) (row : CopyRow) (before : Option ObjectPlace) → CopyFitsVolume sectors row
+      → is_within row.lba row.sectors k ≡ within → Fits sectors number k before
+      → Fits sectors number k
+      (cond (within && live) (Some (record { level = 0; number = number; sector = row.place + (k - row.lba) })) before)
+  copied_test true true number k row before fit within of_before =
+      let from : row.lba ≤ k = grind (arith, nat_tests) in
+      let to : k < row.lba + row.sectors = grind (arith, nat_tests) in
+      record {
+        inside = omega (arith, fit.sectors_are, to);
+        own = refl;
+        number = omega arith;
+        payload = omega (arith, fit.place, from, to);
+      }
+  copied_test true false number k row before fit within of_before = of_before
+  copied_test false live number k row before fit within of_before = of_before
+
+  copies_fit : (number k : ℕ) (rows : List CopyRow) (before : Option ObjectPlace) → AllByRecursion (CopyFitsVolume sectors) rows
+      → Fits sectors number k before → Fits sectors number k (settled_by_copy number rows before k)
+  copies_fit number k [] before fit of_before = of_before
+  copies_fit number k (row ∷ rows) before fit of_before =
+      copies_fit number k rows (settled_by_copy_row number row before k) fit.1
+      (copied_test (is_within row.lba row.sectors k) (is_live row.source.number before) number k row before fit.0 refl of_before)
+
+  copy_fits : (number k : ℕ) (rows : List CopyRow) (before : Option ObjectPlace) → FitCopy sectors rows
+      → Fits sectors number k before → Fits sectors (number + 1) k (settled_by_copy (number + 1) rows before k)
+  copy_fits number k rows before fit of_before =
+      copies_fit (number + 1) k rows before fit.fit (fits_later number (number + 1) k before (omega arith) of_before)
+
   -- ---- sealed objects
 
-  sealed_fits : (number k : ℕ) (rows : SealedRows) (before : Option ObjectPlace) → FitSealed sectors rows
+  pub sealed_fits : (number k : ℕ) (rows : SealedRows) (before : Option ObjectPlace) → FitSealed sectors rows
       → Fits sectors number k before → Fits sectors (number + 1) k (settled_by_rows (number + 1) rows before k)
   sealed_fits number k (Data list) before fit of_before = object_fits number k list.items before fit of_before
+  sealed_fits number k (Copy list) before fit of_before = copy_fits number k list.items before fit of_before
   sealed_fits number k Checkpoint before fit of_before = fits_later number (number + 1) k before (omega arith) of_before
 
   abbrev AllFit : List SealedState → Type 0
@@ -99,9 +152,10 @@ module _ (sectors : ℕ) where
       (sealed_fits number k sealed.rows before fit.0 of_before))
 
   -- what the maps have after a sealed object was settled
-  settled_is : (number size end : ℕ) (rows : SealedRows) (old new : MapsState) → SettlesSealed number size rows end old new
+  pub settled_is : (number size end : ℕ) (rows : SealedRows) (old new : MapsState) → SettlesSealed number size rows end old new
       → (k : ℕ) → settled_at new k ≡ settled_by_rows number rows (settled_at old k) k
   settled_is number size end (Data list) old new settles k = settles.settled k
+  settled_is number size end (Copy list) old new settles k = settles.settled k
   settled_is number size end Checkpoint old new settles k =
       ap (λ m. settled_at (record old { settled = m }) k) settles.settled
 

@@ -6,6 +6,7 @@ use Rattle.std.specs.Prelude.{Result, Ok, Err, IsOk, is_ok, MatchResult}
 use Rattle.std.specs.List.{All, AllByRecursion, insert, remove}
 use Rattle.std.specs.List.Sorted.{IsSearchInRange, IsBinarySearchResult, IsNonDecreasingBy}
 use Rattle.std.specs.Ordering.{nat_cmp, ordering_index}
+use Rattle.std.proofs.lemmas.List.Quantifiers.{all_pairs_remove}
 use Rattle.std.proofs.lemmas.Cmp.{ranked}
 use Rattle.std.proofs.lemmas.List.Elements.{All-nil, All-cons, All-head, All-tail, recursion_from_All}
 use Rattle.std.proofs.lemmas.List.Kept.{AllPairs-cons}
@@ -93,6 +94,10 @@ searched_at number list order (Err at) within parted = (
   λ k d low. ranked _ number _ (sym ((parted (comparisons_rise number list order)).0 k d (omega arith) low)),
   λ k d high less. ranked _ number _ (sym ((parted (comparisons_rise number list order)).1 k d high less)),
 )
+
+pub ascend_removed : (list : List NumberedReceipt) (i : ℕ) → i < length list → Ascend list → Ascend (remove list i)
+ascend_removed list i inside order =
+    all_pairs_remove (λ (earlier later : NumberedReceipt). earlier.number < later.number) list i inside order
 
 pub removed_receipt : (number : ℕ) (list : List NumberedReceipt) (i : ℕ) → Ascend list → i < length list
     → ((d : NumberedReceipt) → (get_or list i d).number ≡ number) → remove list i ≡ without_receipt number list

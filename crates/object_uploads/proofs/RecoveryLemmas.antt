@@ -12,17 +12,19 @@ use Rattle.lsvd_base.specs.declared.entry.Entry.{Entry}
 use Rattle.lsvd_objstore.specs.Store.{ReceiptState}
 use Rattle.lsvd_objstore.specs.Objects.{Objects, found}
 use Rattle.object_format.specs.declared.expected.Expected.{Expected}
+use Rattle.object_format.specs.declared.copy_row.CopyRow.{CopyRow}
 use Rattle.object_format.specs.declared.data_row.DataRow.{DataRow}
 use Rattle.object_format.specs.declared.rows.Rows.{Rows}
 use Rattle.object_format.specs.declared.rows.Rows.TheVariants as rows
+use Rattle.object_stream.specs.declared.object.CopiedSector.{CopiedSector}
 use Rattle.object_stream.specs.declared.object.Content.{Content}
-use Rattle.object_stream.specs.declared.object.Content.TheVariants.{Data, Copy, Checkpoint}
+use Rattle.object_stream.specs.declared.object.Content.TheVariants.{Data, Copy}
 use Rattle.object_stream.specs.declared.object.StreamObject.{StreamObject}
 use Rattle.object_stream.specs.declared.owner.Owner.{Owner}
 use Rattle.object_stream.specs.Changes.{change_at, change_in}
-use Rattle.object_stream.specs.Stream.{Owners, Stream, owners, last_number, end_at, after_object}
+use Rattle.object_stream.specs.Stream.{Owners, Stream, owners, last_number, end_at, source_in, after_object}
 use Rattle.object_stream.specs.Landed.{Numbers, IsFirstMissing}
-use Rattle.object_stream.specs.Replay.{object_name, expected_at, Replays}
+use Rattle.object_stream.specs.Replay.{object_name, expected_at, source_at, Replays}
 use Rattle.object_stream.specs.Stored.{HasContent, IsObjectStored, AreStored}
 use Rattle.object_stream.specs.Laws.{from_object}
 use Rattle.object_stream.proofs.StreamLemmas.{keeps_owners, owns_by_number}
@@ -38,7 +40,7 @@ use Rattle.object_uploads.specs.State.{SealedState, UploadsState}
 use Rattle.object_uploads.specs.Queue.{HasBytesAt, is_checkpoint}
 use Rattle.object_uploads.specs.Order.{IsOpenFirst, AreOpen, AreWaiting, PlaceFits, IsUploads}
 use Rattle.object_uploads.specs.Changes.{index_of}
-use Rattle.object_uploads.specs.Stream.{AreRows, HoldsContent, AreSealedOf, AreOfStream}
+use Rattle.object_uploads.specs.Stream.{AreRows, AreCopyRows, HoldsContent, AreSealedOf, AreOfStream}
 use Rattle.object_uploads.specs.Laws.{acknowledged_in, IsLeftOfUploads, RecoveryFindsStream}
 use Rattle.object_uploads.proofs.KeepLemmas.{later_sealed}
 use Rattle.object_uploads.proofs.KnownReceipts.{sector_is_known}
@@ -223,16 +225,30 @@ checkpoint_past (suc count) index (suc whole) (sealed ∷ list) same is =
 
 -- ---- sealed objects in a store
 
-data_content : (objects : Objects) (uuid_at : ℕ → Option (List ℕ)) (entries : List Entry) (rows_of : Rows) (items : List DataRow)
-    (payload : List ℕ)
+data_content : (objects : Objects) (uuid_at : ℕ → Option (List ℕ)) (owned : Owners) (entries : List Entry) (rows_of : Rows)
+    (items : List DataRow) (payload : List ℕ)
     → AreRows rows_of items → ((k : ℕ) → change_in items payload k ≡ change_at entries k)
-    → HasContent objects uuid_at Data entries rows_of payload
-data_content objects uuid_at entries (rows.Data list) items payload are changes =
+    → HasContent objects uuid_at owned Data entries rows_of payload
+data_content objects uuid_at owned entries (rows.Data list) items payload are changes =
     λ k. ap (λ rs. change_in rs payload k) are ∙ changes k
-data_content objects uuid_at entries (rows.Copy list) items payload are changes = absurd are
-data_content objects uuid_at entries rows.Checkpoint items payload are changes = absurd are
+data_content objects uuid_at owned entries (rows.Copy list) items payload are changes = absurd are
+data_content objects uuid_at owned entries rows.Checkpoint items payload are changes = absurd are
 
-module _ (objects : Objects) (uuid_at : ℕ → Option (List ℕ)) (stream : Stream) (volume : Expected) where
+copy_content : (objects : Objects) (uuid_at : ℕ → Option (List ℕ)) (owned : Owners) (pairs : List CopiedSector)
+    (entries : List Entry) (rows_of : Rows) (items : List CopyRow) (payload : List ℕ)
+    → ((level : ℕ) → uuid_at level ≡ None)
+    → AreCopyRows rows_of items → ((k : ℕ) → source_at items k ≡ source_in pairs k)
+    → HasContent objects uuid_at owned (Copy pairs) entries rows_of payload
+copy_content objects uuid_at owned pairs entries (rows.Data list) items payload unknown are sources = absurd are
+copy_content objects uuid_at owned pairs entries (rows.Copy list) items payload unknown are sources = (
+  λ k. ap (λ rs. source_at rs k) are ∙ sources k,
+  λ k number sector source still has. let level = sym (unknown 0) ∙ has.level in absurd cc,
+)
+copy_content objects uuid_at owned pairs entries rows.Checkpoint items payload unknown are sources = absurd are
+
+-- a replay asks for no other volume's objects, so that no uuid is known here
+module _ (objects : Objects) (uuid_at : ℕ → Option (List ℕ)) (unknown : (level : ℕ) → uuid_at level ≡ None) (stream : Stream)
+    (volume : Expected) where
   -- the sealed bytes of the object at an index past a number are in the store
   abbrev IsThere : (number index : ℕ) → List SealedState → Type 0
   IsThere number index list = (bytes : List ℕ) × (found objects (object_name volume (number + 1 + index)) ≡ Some bytes)
@@ -243,7 +259,8 @@ module _ (objects : Objects) (uuid_at : ℕ → Option (List ℕ)) (stream : Str
       (rows_of : SealedRows)
       → HoldsContent stream (expected_at volume number end_before) content entries owned end bytes rows_of
       → is_checkpoint rows_of ≡ false → found objects (object_name volume number) ≡ Some bytes
-      → IsObjectStored objects uuid_at (expected_at volume number end_before) (record { content = content; end = end }) entries
+      → IsObjectStored objects uuid_at (expected_at volume number end_before) owned (record { content = content; end = end })
+      entries
   stored_one number end_before Data entries owned end bytes (sealed_rows.Data list) holds is present = record {
     bytes = bytes;
     header = holds.header;
@@ -252,11 +269,21 @@ module _ (objects : Objects) (uuid_at : ℕ → Option (List ℕ)) (stream : Str
     present = present;
     parts = holds.parts;
     ends = holds.ends;
-    content = data_content objects uuid_at entries holds.rows_of list.items holds.payload holds.rows_are holds.changes;
+    content = data_content objects uuid_at owned entries holds.rows_of list.items holds.payload holds.rows_are holds.changes;
+  }
+  stored_one number end_before (Copy pairs) entries owned end bytes (sealed_rows.Copy list) holds is present = record {
+    bytes = bytes;
+    header = holds.header;
+    rows_of = holds.rows_of;
+    payload = holds.payload;
+    present = present;
+    parts = holds.parts;
+    ends = holds.ends;
+    content = copy_content objects uuid_at owned pairs entries holds.rows_of list.items holds.payload unknown holds.rows_are
+        holds.sources;
   }
   stored_one number end_before content entries owned end bytes sealed_rows.Checkpoint holds is present = absurd cc
-  stored_one number end_before (Copy pairs) entries owned end bytes (sealed_rows.Data list) holds is present = absurd holds
-  stored_one number end_before Checkpoint entries owned end bytes (sealed_rows.Data list) holds is present = absurd holds
+  stored_one number end_before content entries owned end bytes rows_of holds is present = absurd holds
 
   next_there : (number index : ℕ) (sealed : SealedState) (more : List SealedState) → IsThere number (suc index) (sealed ∷ more)
       → IsThere (number + 1) index more
@@ -269,7 +296,7 @@ module _ (objects : Objects) (uuid_at : ℕ → Option (List ℕ)) (stream : Str
       → AreSealedOf stream volume number end entries owned list sealed
       → ((index : ℕ) → index < count → IsThere number index sealed)
       → ((index : ℕ) → index < count → checkpoint_at index sealed ≡ false) → count ≤ length list
-      → AreStored objects uuid_at volume number end entries (take count list)
+      → AreStored objects uuid_at volume number end entries owned (take count list)
   stored_first zero number end entries owned list sealed are there data_ within = tt
   stored_first (suc count) number end entries owned [] sealed are there data_ within = absurd (omega arith)
   stored_first (suc count) number end entries owned (object ∷ list) [] are there data_ within = absurd are
@@ -436,7 +463,8 @@ module _ (volume : Expected) (data_at : ℕ → ℕ) (stream : Stream) (uploads 
       let size = length-drop (start - stream.number) stream.objects in
       omega (arith, size, at_most, are.last, are.from, start_from)
 
-  there_at : (index : ℕ) → index < number - start → IsThere objects (λ level. None) stream volume start index left_sealed
+  there_at : (index : ℕ) → index < number - start
+      → IsThere objects (λ level. None) (λ level. refl) stream volume start index left_sealed
   there_at index low =
       let n = start + 1 + index in
       let past : frontier < n = omega (arith, start_from) in
@@ -455,9 +483,10 @@ module _ (volume : Expected) (data_at : ℕ → ℕ) (stream : Stream) (uploads 
       let newer = missing.newest.newest n (left.checkpoints n past there ∙ open_) there in
       absurd (omega (arith, newer, start_base)))
 
-  stored : AreStored objects (λ level. None) volume start tail.end tail.entries found_objects
+  stored : AreStored objects (λ level. None) volume start tail.end tail.entries (owners stream start) found_objects
   stored =
-      stored_first objects (λ level. None) stream volume (number - start) start tail.end tail.entries (owners stream start)
+      stored_first objects (λ level. None) (λ level. refl) stream volume (number - start) start tail.end tail.entries
+      (owners stream start)
       tail.objects left_sealed sealed_there there_at none_checkpoint enough
 
   replayed : Replays objects volume start (end_at stream start) (owners stream start) (number - start) (end_at stream number)

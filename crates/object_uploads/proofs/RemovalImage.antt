@@ -25,6 +25,7 @@ use Rattle.object_uploads.specs.ImageLaws.{KeepsImage, PinsKeepImage, RemovalsKe
 use Rattle.object_uploads.proofs.StoredLemmas.{fixed, first_row, first_receipt, front_in, same_front, stored_parts, stays}
 use Rattle.object_uploads.proofs.StoredLemmas.{fixed_changed}
 use Rattle.object_uploads.proofs.HoldLemmas.{Stays, image_stays}
+use Rattle.object_uploads.proofs.CopyImage.{are_copied_same}
 
 -- ---- numbers that are counted
 
@@ -348,6 +349,9 @@ kept_by : (old new : UploadsState) → IsSameButObjects old new
 kept_by old new rest stays = record {
   image = image_stays old.queue new.queue (ap (λ (m : MapState ObjectPlace). m.rows) rest.settled) stays;
   receipts = λ told. rw rest.sealed told;
+  copies = λ tells image copied.
+      are_copied_same tells image old.queue new.queue rest.frontier (ap (λ (m : MapState ObjectPlace). m.rows) rest.settled)
+      rest.sealed copied;
 }
 
 pub pins_keep_image : PinsKeepImage

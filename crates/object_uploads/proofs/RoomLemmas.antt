@@ -6,12 +6,13 @@ use Rattle.std.specs.List.{All, AllByRecursion, sum_by}
 use Rattle.std.proofs.lemmas.List.Elements.{All-nil, All-cons}
 use Rattle.std.proofs.lemmas.List.Sums.{sum_by-cons, sum_by_push}
 use Rattle.lsvd_objstore.specs.Store.{ReceiptState}
+use Rattle.object_format.specs.declared.copy_row.CopyRow.{CopyRow}
 use Rattle.object_format.specs.declared.data_row.DataRow.{DataRow}
 use Rattle.object_uploads.specs.declared.rows.SealedRows.{SealedRows}
 use Rattle.volume_maps.specs.Maps.{MapsState}
 use Rattle.object_uploads.specs.State.{SealedState, QueueState}
 use Rattle.object_uploads.specs.Queue.{count_of_rows, row_count, with_at, FitsVolume, HasRoomForRows, HasRoomForObject}
-use Rattle.object_uploads.specs.Queue.{IsWaiting, FirstWaits}
+use Rattle.object_uploads.specs.Queue.{CopyFitsVolume, IsWaiting, FirstWaits}
 use Rattle.object_uploads.specs.Invariant.{MaySettle, AllMaySettle}
 use Rattle.object_uploads.proofs.QueueLemmas.{rows_with, length-with}
 
@@ -162,6 +163,15 @@ room_settled sealed taken before after had had_log settled log room = record {
   log = omega (arith, had_log, log);
 }
 
+-- so there is after a copy, of which the log's map takes nothing
+pub room_copied : (sealed : List SealedState) (taken : ℕ) (before after : MapsState)
+    → sum_by row_count sealed + taken ≤ before.settled.spare → before.settled.spare ≤ after.settled.spare + taken
+    → after.log ≡ before.log → HasRoomForRows sealed before → HasRoomForRows sealed after
+room_copied sealed taken before after had settled log room = record {
+  settled = omega (arith, had, settled);
+  log = rw log room.log;
+}
+
 -- and the counts, where one more was settled
 pub counts_settled : (sealed out frontier receipts receipts_now objects objects_now limit : ℕ) → sealed + out + 1 ≤ receipts
     → receipts ≤ receipts_now + 1 → sealed + 1 ≤ objects → objects_now ≡ objects - 1 → frontier + sealed + 1 < limit
@@ -229,3 +239,12 @@ rows_end sectors (row ∷ rows) most fit =
     let ends = fit.0.sectors_are in
     All-cons (λ (row : DataRow). row.lba + row.sectors ≤ 2147483648) row rows (omega (arith, most, ends))
     (rows_end sectors rows most fit.1)
+
+-- and so do those of a copy
+pub copies_end : (sectors : ℕ) (rows : List CopyRow) → sectors ≤ 2147483648 → AllByRecursion (CopyFitsVolume sectors) rows
+    → All (λ (row : CopyRow). row.lba + row.sectors ≤ 2147483648) rows
+copies_end sectors [] most fit = All-nil (λ (row : CopyRow). row.lba + row.sectors ≤ 2147483648)
+copies_end sectors (row ∷ rows) most fit =
+    let ends = fit.0.sectors_are in
+    All-cons (λ (row : CopyRow). row.lba + row.sectors ≤ 2147483648) row rows (omega (arith, most, ends))
+    (copies_end sectors rows most fit.1)

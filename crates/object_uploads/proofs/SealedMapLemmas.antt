@@ -1,24 +1,27 @@
 -- A copy of the objects' map, in which the objects past the frontier are settled one after the other.
 use Rattle.std.proofs.Common.{◌≡◌, ℕ, zero, suc, ◌+◌, ◌<◌, ◌≤◌, Option, List, [], ◌∷◌, ◌++◌, length, take, drop, get_or}
-use Rattle.std.proofs.Common.{refl}
+use Rattle.std.proofs.Common.{◌-◌, ◌&&◌, Bool, true, false, cond, Some, refl}
 use Rattle.std.proofs.Common.{sym, ◌∙◌, ap, subst, arith, add-one, drop-cons}
 use Rattle.std.specs.Prelude.{Result, Ok, Err, IfOk}
 use Rattle.std.specs.List.{sum_by}
 use Rattle.std.proofs.lemmas.List.{take_more, length-take-le}
 use Rattle.std.proofs.lemmas.List.Sums.{sum_by-cons}
 use Rattle.std.proofs.Math.Seq.{take-length}
-use Rattle.extent_map.specs.Extents.{place_at}
+use Rattle.std.proofs.lemmas.Bool.Decides.{nat_tests}
+use Rattle.extent_map.specs.Extents.{is_within, place_at}
 use Rattle.extent_map.specs.State.{MapState}
 use Rattle.volume_maps.specs.declared.place.ObjectPlace.{ObjectPlace}
+use Rattle.object_format.specs.declared.copy_row.CopyRow.{CopyRow}
 use Rattle.object_format.specs.declared.data_row.DataRow.{DataRow}
 use Rattle.volume_maps.specs.Places.{object_on}
-use Rattle.volume_maps.specs.Maps.{settled_by}
+use Rattle.volume_maps.specs.Live.{is_live}
+use Rattle.volume_maps.specs.Maps.{settled_by, settled_by_copy}
 use Rattle.object_uploads.specs.declared.rows.SealedRows.{SealedRows}
-use Rattle.object_uploads.specs.declared.rows.SealedRows.TheVariants.{Data, Checkpoint}
+use Rattle.object_uploads.specs.declared.rows.SealedRows.TheVariants.{Data, Copy, Checkpoint}
 use Rattle.object_format.specs.declared.expected.Expected.{Expected}
 use Rattle.object_uploads.specs.Checkpoint.{HoldsPlaces}
 use Rattle.object_uploads.specs.State.{SealedState}
-use Rattle.object_uploads.specs.Queue.{count_of_rows, row_count, settled_by_rows, settled_by_all}
+use Rattle.object_uploads.specs.Queue.{count_of_rows, row_count, copied_sectors, settled_by_rows, settled_by_all}
 use Rattle.object_uploads.specs.Invariant.{MaySettle, AllMaySettle}
 
 -- one more is settled
@@ -93,9 +96,26 @@ no_rows : (number : ℕ) (rows : List DataRow) (before : Option ObjectPlace) (k 
 no_rows number [] before k none = refl
 no_rows number (row ∷ rows) before k none = absurd (omega arith)
 
+-- a row of a copy without sectors changes no place
+no_sectors : (test live : Bool) (own : ObjectPlace) (before : Option ObjectPlace) (row : CopyRow) (k : ℕ)
+    → is_within row.lba row.sectors k ≡ test → row.sectors ≡ 0 → cond (test && live) (Some own) before ≡ before
+no_sectors true live own before row k within none = absurd (grind (arith, nat_tests))
+no_sectors false live own before row k within none = refl
+
+no_copies : (number : ℕ) (rows : List CopyRow) (before : Option ObjectPlace) (k : ℕ) → copied_sectors rows ≡ 0
+    → settled_by_copy number rows before k ≡ before
+no_copies number [] before k none = refl
+no_copies number (row ∷ rows) before k none =
+    let sum = sum_by-cons (λ (r : CopyRow). r.sectors) row rows in
+    ap (λ b. settled_by_copy number rows b k)
+    (no_sectors (is_within row.lba row.sectors k) (is_live row.source.number before)
+    (record { level = 0; number = number; sector = row.place + (k - row.lba) }) before row k refl (omega (arith, sum)))
+    ∙ no_copies number rows before k (omega (arith, sum))
+
 none_of : (number : ℕ) (rows : SealedRows) (before : Option ObjectPlace) (k : ℕ) → count_of_rows rows ≡ 0
     → settled_by_rows number rows before k ≡ before
 none_of number (Data list) before k none = no_rows number list.items before k none
+none_of number (Copy list) before k none = no_copies number list.items before k none
 none_of number Checkpoint before k none = refl
 
 -- the places stay as they are

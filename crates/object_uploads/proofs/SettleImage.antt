@@ -1,20 +1,19 @@
--- The image after objects are settled, one after the other.
-use Rattle.std.proofs.Common.{◌≡◌, ℕ, zero, suc, ◌+◌, ◌-◌, ◌*◌, ◌<◌, ◌≤◌, Option, Some, None, List, [], ◌∷◌, ◌++◌, length, take}
-use Rattle.std.proofs.Common.{drop, refl, sym, ◌∙◌, ap, subst, arith}
-use Rattle.std.specs.Prelude.{IfSome, IsSome, IsTrue, map, option_to_list}
-use Rattle.std.specs.List.{AllByRecursion, All, slice_get}
-use Rattle.std.proofs.lemmas.List.{append-nil, append_assoc, drop-drop, map-append}
-use Rattle.std.proofs.lemmas.List.Elements.{All-take, All-drop}
+-- The image after an object is settled.
+use Rattle.std.proofs.Common.{◌≡◌, ℕ, ◌+◌, ◌-◌, ◌*◌, ◌<◌, ◌≤◌, cond, Bool, true, false, Option, Some, None, List, [], ◌∷◌, ◌++◌}
+use Rattle.std.proofs.Common.{length, take, drop, refl, sym, ◌∙◌, ap, subst, arith}
+use Rattle.std.specs.Prelude.{IfSome, IsTrue, map}
+use Rattle.std.specs.List.{All, slice_get}
+use Rattle.std.specs.Option.{is_some}
+use Rattle.std.proofs.lemmas.List.{drop-drop, map-append}
 use Rattle.std.proofs.lemmas.Option.{slice_get_within}
-use Rattle.std.proofs.Math.Seq.{take-add, take-append_seam, drop-append_seam}
 use Rattle.lsvd_base.specs.declared.entry.Entry.{Entry}
 use Rattle.lsvd_base.specs.Image.{Image, zero_sector, after}
 use Rattle.lsvd_base.specs.Laws.{EndsBy}
-use Rattle.lsvd_base.proofs.SectorLemmas.{applies_in_parts}
 use Rattle.lsvd_objstore.specs.Store.{ReceiptState}
 use Rattle.object_format.specs.declared.kind.Kind.TheVariants as kinds
 use Rattle.object_format.specs.declared.header.Header.{Header}
 use Rattle.object_format.specs.declared.expected.Expected.{Expected}
+use Rattle.object_format.specs.declared.copy_row.CopyRow.{CopyRow}
 use Rattle.object_format.specs.declared.data_row.DataRow.{DataRow}
 use Rattle.object_format.specs.declared.rows.Rows.{Rows}
 use Rattle.object_format.specs.declared.rows.Rows.TheVariants as rows
@@ -22,41 +21,36 @@ use Rattle.object_format.specs.Layout.{front_with, front_sectors}
 use Rattle.object_format.specs.Rows.{AreObjectRows, may_stand, data_rows_may_stand}
 use Rattle.object_stream.specs.declared.change.Change.{Change}
 use Rattle.object_stream.specs.declared.change.Change.TheVariants.{Put, Clear}
+use Rattle.object_stream.specs.declared.object.CopiedSector.{CopiedSector}
 use Rattle.object_stream.specs.declared.object.Content.{Content}
 use Rattle.object_stream.specs.declared.object.Content.TheVariants as contents
-use Rattle.object_stream.specs.declared.object.StreamObject.{StreamObject}
 use Rattle.object_stream.specs.Changes.{sector_of, change_at}
-use Rattle.object_stream.specs.Stream.{Owners, Stream, after_object, GoesTo, EndsFollow}
+use Rattle.object_stream.specs.Stream.{Owners, Stream, source_in, GoesTo}
 use Rattle.object_stream.specs.Replay.{expected_at}
 use Rattle.object_stream.specs.Laws.{changed_by}
 use Rattle.object_stream.proofs.ChangeLemmas.{changes_make_image}
-use Rattle.object_stream.proofs.StreamLemmas.{goes_on}
 use Rattle.object_stream.proofs.ValueLemmas.{length-after}
 use Rattle.object_table.specs.Table.{TableState, new_row, added, passed, acknowledged}
 use Rattle.extent_map.specs.State.{MapState}
 use Rattle.volume_maps.specs.declared.place.ObjectPlace.{ObjectPlace}
 use Rattle.volume_maps.specs.Maps.{MapsState, settled_by, settled_at}
-use Rattle.volume_maps.specs.Live.{HasSameObjects}
-use Rattle.volume_maps.specs.Laws.{IsPlacedBy}
+use Rattle.volume_maps.specs.Live.{is_live, HasSameObjects}
+use Rattle.volume_maps.specs.Laws.{IsPlacedBy, is_in_source}
 use Rattle.volume_maps.proofs.SettleLemmas.{settles_places}
 use Rattle.object_uploads.specs.declared.rows.SealedRows.{SealedRows}
 use Rattle.object_uploads.specs.declared.rows.SealedRows.TheVariants as sealed_rows
 use Rattle.object_uploads.specs.State.{SealedState, NumberedReceipt, QueueState}
-use Rattle.object_uploads.specs.Queue.{front_of, payload_of, receipts_of, end_of_last, SettlesObject, SettlesCheckpoint}
-use Rattle.object_uploads.specs.Queue.{SettlesSealed, SettlesObjects}
-use Rattle.object_uploads.specs.Stream.{AreRows, HoldsEntries, HoldsContent, AreSealedOf}
-use Rattle.object_uploads.specs.Image.{GivesSector, HoldsSector, HasImage, IsReceiptFor}
-use Rattle.object_uploads.proofs.StoredLemmas.{fixed, fixed_passed, fixed_same, IsAddedTo, AreUpTo, up_to_next, still_stored}
-use Rattle.object_uploads.proofs.StoredLemmas.{next_stored}
+use Rattle.object_uploads.specs.Queue.{front_of, payload_of, copy_front_of, copy_payload_of, SettlesObject, SettlesCopy}
+use Rattle.object_uploads.specs.Queue.{SettlesCheckpoint, SettlesSealed}
+use Rattle.object_stream.specs.Stream.{place_in_copy}
+use Rattle.object_uploads.specs.Stream.{AreRows, HoldsEntries, AreCopyRows, HoldsCopy, HoldsContent}
+use Rattle.object_uploads.specs.Image.{GivesSector, HoldsSector, HasImage, IsReceiptFor, HasLiveSectors, IsCopiedIfCopy}
+use Rattle.object_uploads.proofs.CopyRanks.{IsPlacedByCopy}
+use Rattle.object_uploads.proofs.KeepLemmas.{place_of_copy}
+use Rattle.object_uploads.proofs.CopyImage.{WasThere, same_places, was_there_by_change, was_there_by_copy}
+use Rattle.object_uploads.proofs.StoredLemmas.{fixed, fixed_passed, fixed_same, IsAddedTo, AreUpTo, still_stored, next_stored}
 use Rattle.object_uploads.proofs.HoldLemmas.{still_holds, image_stays}
 use Rattle.object_uploads.proofs.WholeLemmas.{PutsWhole, puts_whole, lies_inside}
-
--- the two parts of a list
-all_front : {X : Type 0} (P : X → Type 0) (a b : List X) → All P (a ++ b) → All P a
-all_front P a b all = subst (All P) (take-append_seam a b) (All-take P (length a) (a ++ b) all)
-
-all_back : {X : Type 0} (P : X → Type 0) (a b : List X) → All P (a ++ b) → All P b
-all_back P a b all = subst (All P) (drop-append_seam a b) (All-drop P (length a) (a ++ b) all)
 
 -- a sector, where there is one
 abbrev pub sector_or : List ℕ → Option (List ℕ) → List ℕ
@@ -105,15 +99,19 @@ added_checkpoint number receipt receipts old new is = record {
 }
 
 -- the sectors before the payload of a sealed object
-abbrev sealed_front : SealedRows → ℕ
+abbrev pub sealed_front : SealedRows → ℕ
 sealed_front (sealed_rows.Data list) = front_of list.items
+sealed_front (sealed_rows.Copy list) = copy_front_of list.items
 sealed_front sealed_rows.Checkpoint = 0
 
-added_one : (number size : ℕ) (rows : SealedRows) (end : ℕ) (receipt : ReceiptState) (receipts : List NumberedReceipt)
+pub added_one : (number size : ℕ) (rows : SealedRows) (end : ℕ) (receipt : ReceiptState) (receipts : List NumberedReceipt)
     (old new : MapsState) → SettlesSealed number size rows end old new
     → IsAddedTo number (sealed_front rows) receipt receipts old.objects.rows (with_next number receipt receipts) new.objects.rows
 added_one number size (sealed_rows.Data list) end receipt receipts old new settles =
     added_data number (payload_of size list.items) (front_of list.items) receipt receipts old.objects new.objects settles.objects
+added_one number size (sealed_rows.Copy list) end receipt receipts old new settles =
+    added_data number (copy_payload_of size list.items) (copy_front_of list.items) receipt receipts old.objects new.objects
+    settles.objects
 added_one number size sealed_rows.Checkpoint end receipt receipts old new settles =
     added_checkpoint number receipt receipts old.objects new.objects settles.objects
 
@@ -151,6 +149,15 @@ module _ (number front : ℕ) (receipts : List NumberedReceipt) (receipt : Recei
       still_stored (number + 1) front receipt receipts (with_next (number + 1) receipt receipts) old.objects.rows
       new.objects.rows added p.number) holds
 
+  -- it has a sector that its receipt gives
+  own_holds : (at : ℕ) (sector : List ℕ) → 512 * (front + at + 1) ≤ receipt.size
+      → IfSome receipt.told (λ bytes. sector_of (front + at) bytes ≡ sector)
+      → HoldsSector now (Some (record { level = 0; number = number + 1; sector = at })) sector
+  own_holds at sector inside told =
+      let stored = next_stored (number + 1) front receipt receipts (with_next (number + 1) receipt receipts) old.objects.rows
+      new.objects.rows added number (omega arith) known in
+      (refl, subst (λ o. GivesSector o at sector) (sym stored) (inside, told))
+
   module _ (bytes payload : List ℕ) (tells : IsReceiptFor bytes receipt) (payload_is : payload ≡ drop (512 * front) bytes) where
     put_holds : (at : ℕ) (sector : List ℕ) → length sector ≡ 512 → sector_of at payload ≡ sector
         → HoldsSector now (Some (record { level = 0; number = number + 1; sector = at })) sector
@@ -159,12 +166,7 @@ module _ (number front : ℕ) (receipts : List NumberedReceipt) (receipt : Recei
         sym (payload_sector front at bytes) ∙ (ap (sector_of at) (sym payload_is) ∙ has) in
         let inside : 512 * (front + at + 1) ≤ receipt.size =
         omega (arith, tells.size, lies_inside (front + at) bytes sector whole there) in
-        let stored = next_stored (number + 1) front receipt receipts (with_next (number + 1) receipt receipts) old.objects.rows
-        new.objects.rows added number (omega arith) known in (
-          refl,
-          subst (λ o. GivesSector o at sector) (sym stored)
-              (inside, tells_sector receipt.told bytes sector (front + at) tells.told there),
-        )
+        own_holds at sector inside (tells_sector receipt.told bytes sector (front + at) tells.told there)
 
     -- a sector after what its object did to it
     changed_holds : (change : Option Change) (was is : Option ObjectPlace) (held : Option (List ℕ)) (sector : List ℕ)
@@ -198,7 +200,45 @@ rows_stand sectors header (rows.Data list) items are stand =
 rows_stand sectors header (rows.Copy list) items are stand = absurd are
 rows_stand sectors header rows.Checkpoint items are stand = absurd are
 
+-- so it is with a copy
+pub copy_front_is : (header : Header) (rows_of : Rows) (items : List CopyRow) (sectors : ℕ) → AreCopyRows rows_of items
+    → AreObjectRows sectors header rows_of → front_sectors header ≡ copy_front_of items
+copy_front_is header (rows.Data list) items sectors same are = absurd same
+copy_front_is header (rows.Copy list) items sectors same are =
+    ap (λ kind. front_with kind header.rows) (sym are.kind)
+    ∙ (ap (front_with kinds.Copy) (sym are.count) ∙ ap copy_front_of same)
+copy_front_is header rows.Checkpoint items sectors same are = absurd same
+
+-- a sector that is still in its source has one
+source_of : (source : Option ℕ) (place : Option ObjectPlace) → is_in_source source place ≡ true
+    → (number : ℕ) × (source ≡ Some number) × IsTrue (is_live number place)
+source_of None place live = absurd cc
+source_of (Some number) place live = (number, refl, live)
+
+-- where a receipt tells bytes, they have a sector that its object's have
+told_sector : (told : Option (List ℕ)) (bytes sector : List ℕ) (at : ℕ) → IfSome told (λ t. t ≡ bytes)
+    → (IsTrue (is_some told) → sector_of at bytes ≡ sector) → IfSome told (λ t. sector_of at t ≡ sector)
+told_sector None bytes sector at tells has = tt
+told_sector (Some told) bytes sector at tells has = rw tells (has refl)
+
 module _ (volume : Expected) where
+  -- what entries make of a sector
+  sector_made : (part : List Entry) (image : Image) (k : ℕ) (sector : List ℕ) → All (EndsBy (length image)) part
+      → slice_get (after image part) k ≡ Some sector
+      → changed_by (change_at part k) (slice_get image k) ≡ Some sector
+  sector_made part image k sector ends at =
+      let inside : k < length image = rw (sym (length-after image part ends)) (slice_get_within (after image part) k sector at) in
+      sym (changes_make_image image part k ends inside) ∙ at
+
+  -- where the data object of these entries leaves one
+  sector_placed : (number end last : ℕ) (part : List Entry) (bytes : List ℕ) (items : List DataRow)
+      (is : HoldsEntries (expected_at volume (number + 1) end) part last bytes items) (k : ℕ) (before : Option ObjectPlace)
+      → IsPlacedBy (number + 1) is.payload (change_at part k) before (settled_by (number + 1) items before k)
+  sector_placed number end last part bytes items is k before =
+      let stand = rows_stand volume.sectors is.header is.rows_of items is.rows_are is.parts.is_object.rows_are.spelling in
+      subst (λ c. IsPlacedBy (number + 1) is.payload c before (settled_by (number + 1) items before k)) (is.changes k)
+      (settles_places volume.sectors is.header.payload (number + 1) k items is.payload before stand)
+
   -- a data object of these entries is
   pub has_data : (number end size last : ℕ) (part : List Entry) (bytes : List ℕ) (items : List DataRow) (settled_end : ℕ)
       (receipts : List NumberedReceipt) (receipt : ReceiptState) (old new : MapsState) (image : Image)
@@ -209,17 +249,11 @@ module _ (volume : Expected) where
       → HasImage (after image part) (holding (with_next (number + 1) receipt receipts) new)
   has_data number end size last part bytes items settled_end receipts receipt old new image known is tells ends settles has k
       sector at =
-      let inside : k < length image = rw (sym (length-after image part ends)) (slice_get_within (after image part) k sector at) in
-      let made : changed_by (change_at part k) (slice_get image k) ≡ Some sector =
-      sym (changes_make_image image part k ends inside) ∙ at in
-      let parts = is.parts.is_object in
-      let front = front_is is.header is.rows_of items volume.sectors is.rows_are parts.rows_are in
+      let made = sector_made part image k sector ends at in
+      let front = front_is is.header is.rows_of items volume.sectors is.rows_are is.parts.is_object.rows_are in
       let payload : is.payload ≡ drop (512 * front_of items) bytes =
       is.parts.payload_is ∙ ap (λ n. drop (512 * n) bytes) front in
-      let stand = rows_stand volume.sectors is.header is.rows_of items is.rows_are parts.rows_are.spelling in
-      let placed = settles_places volume.sectors is.header.payload (number + 1) k items is.payload (settled_at old k) stand in
-      let by = subst (λ c. IsPlacedBy (number + 1) is.payload c (settled_at old k)
-      (settled_by (number + 1) items (settled_at old k) k)) (is.changes k) placed in
+      let by = sector_placed number end last part bytes items is k (settled_at old k) in
       let added = added_data (number + 1) (payload_of size items) (front_of items) receipt receipts old.objects new.objects
       settles.objects in
       rw (settles.settled k) (
@@ -228,6 +262,50 @@ module _ (volume : Expected) where
       (settled_by (number + 1) items (settled_at old k) k) (slice_get image k) sector
       (puts_whole part k) by (λ s held. has k s held) made
       )
+
+  -- a copy changes no sector
+  module _ (number end size last : ℕ) (pairs : List CopiedSector) (bytes : List ℕ) (items : List CopyRow)
+      (receipts : List NumberedReceipt) (receipt : ReceiptState) (old new : MapsState) (image : Image)
+      (known : AreUpTo number receipts old.objects.rows)
+      (is : HoldsCopy (expected_at volume (number + 1) end) pairs last bytes items) (tells : IsReceiptFor bytes receipt)
+      (copied : IsTrue (is_some receipt.told) → HasLiveSectors image old bytes items)
+      (settles : SettlesCopy (number + 1) size items old new) (has : HasImage image (holding receipts old)) (k : ℕ)
+      (sector : List ℕ) (at : slice_get image k ≡ Some sector) where
+    abbrev copy_front : ℕ
+    copy_front = copy_front_of items
+
+    abbrev place : ℕ
+    place = place_in_copy pairs k
+
+    copy_added : IsAddedTo (number + 1) copy_front receipt receipts old.objects.rows
+        (with_next (number + 1) receipt receipts) new.objects.rows
+    copy_added =
+        added_data (number + 1) (copy_payload_of size items) copy_front receipt receipts old.objects new.objects settles.objects
+
+    placed : IsPlacedByCopy is.header.payload (number + 1) pairs items (settled_at old k) k
+    placed = place_of_copy volume (number + 1) end pairs last bytes items is k (settled_at old k)
+
+    copied_by : (test : Bool) → is_in_source (source_in pairs k) (settled_at old k) ≡ test
+        → HoldsSector (holding (with_next (number + 1) receipt receipts) new)
+        (cond test (Some (record { level = 0; number = number + 1; sector = place })) (settled_at old k)) sector
+    copied_by true live =
+        let source = source_of (source_in pairs k) (settled_at old k) live in
+        let some : is_some (source_in pairs k) ≡ true = ap is_some source.1 in
+        let front = copy_front_is is.header is.rows_of items volume.sectors is.rows_are is.parts.is_object.rows_are in
+        let inside : 512 * (copy_front + place + 1) ≤ receipt.size =
+        omega (arith, tells.size, is.parts.is_object.head.has_size, front, placed.inside some) in
+        own_holds number copy_front receipts receipt old new known copy_added place sector inside
+        (told_sector receipt.told bytes sector (copy_front + place) tells.told (λ told.
+        sym (payload_sector copy_front place bytes)
+        ∙ some_sector (sector_of place (drop (512 * copy_front) bytes)) sector
+        (sym (placed.copied (drop (512 * copy_front) bytes) some)
+        ∙ copied told k source.0 sector (is.sources k ∙ source.1) source.2 at)))
+    copied_by false live =
+        stays_held number copy_front receipts receipt old new known copy_added (settled_at old k) sector (has k sector at)
+
+    pub has_copy : HoldsSector (holding (with_next (number + 1) receipt receipts) new) (settled_at new k) sector
+    has_copy =
+        rw (settles.settled k, placed.settled) (copied_by (is_in_source (source_in pairs k) (settled_at old k)) refl)
 
   -- a checkpoint changes no sector
   has_checkpoint : (number : ℕ) (receipts : List NumberedReceipt) (receipt : ReceiptState) (old new : MapsState)
@@ -240,112 +318,60 @@ module _ (volume : Expected) where
       still_stored (number + 1) 0 receipt receipts (with_next (number + 1) receipt receipts) old.objects.rows new.objects.rows
       added p.number) image has
 
-  has_one : (stream : Stream) (content : Content) (rows : SealedRows) (number end size last settled_end : ℕ)
+  -- any object that is settled makes the image after its entries
+  pub has_one : (stream : Stream) (content : Content) (rows : SealedRows) (number end size last settled_end : ℕ)
       (entries : List Entry) (owned : Owners) (bytes : List ℕ) (receipts : List NumberedReceipt) (receipt : ReceiptState)
-      (old new : MapsState) (image : Image) → AreUpTo number receipts old.objects.rows
+      (old new : MapsState) (tells : Bool) (image : Image) → AreUpTo number receipts old.objects.rows
       → HoldsContent stream (expected_at volume (number + 1) end) content (take (last - end) entries) owned last bytes rows
-      → GoesTo content end last → IsReceiptFor bytes receipt → All (EndsBy (length image)) (take (last - end) entries)
+      → GoesTo content end last → IsReceiptFor bytes receipt → is_some receipt.told ≡ tells
+      → IsCopiedIfCopy tells image number old bytes rows
+      → All (EndsBy (length image)) (take (last - end) entries)
       → SettlesSealed (number + 1) size rows settled_end old new → HasImage image (holding receipts old)
       → HasImage (after image (take (last - end) entries)) (holding (with_next (number + 1) receipt receipts) new)
   has_one stream contents.Data (sealed_rows.Data list) number end size last settled_end entries owned bytes receipts receipt old
-      new image known is goes tells ends settles has =
+      new tells image known is goes for_it alike copied ends settles has =
       has_data number end size last (take (last - end) entries) bytes list.items settled_end receipts receipt old new image known
-      is tells ends settles has
-  has_one stream contents.Data sealed_rows.Checkpoint number end size last settled_end entries owned bytes receipts receipt old
-      new image known is goes tells ends settles has =
-      absurd is
-  has_one stream (contents.Copy pairs) (sealed_rows.Data list) number end size last settled_end entries owned bytes receipts
-      receipt old new image known is goes tells ends settles has =
-      absurd is
-  has_one stream (contents.Copy pairs) sealed_rows.Checkpoint number end size last settled_end entries owned bytes receipts
-      receipt old new image known is goes tells ends settles has =
-      absurd is
-  has_one stream contents.Checkpoint (sealed_rows.Data list) number end size last settled_end entries owned bytes receipts
-      receipt old new image known is goes tells ends settles has =
-      absurd is
+      is for_it ends settles has
+  has_one stream (contents.Copy pairs) (sealed_rows.Copy list) number end size last settled_end entries owned bytes receipts
+      receipt old new tells image known is goes for_it alike copied ends settles has =
+      let none : last - end ≡ 0 = omega (arith, goes) in
+      rw none (has_copy number end size last pairs bytes list.items receipts receipt old new image known is for_it
+      (λ told. copied.sectors (sym alike ∙ told)) settles has)
   has_one stream contents.Checkpoint sealed_rows.Checkpoint number end size last settled_end entries owned bytes receipts
-      receipt old new image known is goes tells ends settles has =
+      receipt old new tells image known is goes for_it alike copied ends settles has =
       let none : last - end ≡ 0 = omega (arith, goes) in
       rw none (has_checkpoint number receipts receipt old new image settles has)
+  has_one stream content rows number end size last settled_end entries owned bytes receipts receipt old new tells image known is
+      goes for_it alike copied ends settles has =
+      absurd is
 
--- ---- the objects that are settled
-
-given : (receipt : Option ReceiptState) → IsSome receipt → (r : ReceiptState) × (receipt ≡ Some r)
-given None some = absurd cc
-given (Some r) some = (r, refl)
-
--- the receipts with that of an object, and then with those of others
-receipts_with : (number : ℕ) (receipts : List NumberedReceipt) (sealed : SealedState) (more : List SealedState)
-    (receipt : ReceiptState) → sealed.receipt ≡ Some receipt
-    → receipts ++ receipts_of number (sealed ∷ more)
-    ≡ with_next (number + 1) receipt receipts ++ receipts_of (number + 1) more
-receipts_with number receipts sealed more receipt is =
-    let own : NumberedReceipt = record { number = number + 1; receipt = receipt } in
-    ap (λ o. receipts ++ (map (λ (r : ReceiptState). record { number = number + 1; receipt = r }) (option_to_list o)
-    ++ receipts_of (number + 1) more)) is
-    ∙ sym (append_assoc receipts (own ∷ []) (receipts_of (number + 1) more))
-
-module _ (volume : Expected) (stream : Stream) where
-  -- no sealed object ends before the one that it comes after
-  ends_later : (count number end : ℕ) (entries : List Entry) (owned : Owners) (list : List StreamObject)
-      (sealed : List SealedState) → AreSealedOf stream volume number end entries owned list sealed → EndsFollow end list
-      → end ≤ end_of_last end (take count sealed)
-  ends_later zero number end entries owned list sealed are follow = omega arith
-  ends_later (suc count) number end entries owned [] [] are follow = omega arith
-  ends_later (suc count) number end entries owned [] (first ∷ sealed) are follow = absurd are
-  ends_later (suc count) number end entries owned (object ∷ list) [] are follow = absurd are
-  ends_later (suc count) number end entries owned (object ∷ list) (first ∷ sealed) are follow =
-      let rest = ends_later count (number + 1) object.end (drop (object.end - end) entries)
-      (after_object (number + 1) object.content (take (object.end - end) entries) owned) list sealed are.1 follow.1 in
-      omega (arith, goes_on object.content end object.end follow.0, rest, ap (λ e. end_of_last e (take count sealed)) are.0.end)
-
-  pub has_all : (count number end : ℕ) (entries : List Entry) (owned : Owners) (list : List StreamObject)
-      (sealed : List SealedState) (receipts : List NumberedReceipt) (old new : MapsState) (image : Image)
-      → AreUpTo number receipts old.objects.rows → AreSealedOf stream volume number end entries owned list sealed
-      → EndsFollow end list → AllByRecursion (λ (s : SealedState). IsSome s.receipt) (take count sealed)
-      → AllByRecursion IsTold sealed → count ≤ length sealed
-      → All (EndsBy (length image)) (take (end_of_last end (take count sealed) - end) entries)
-      → SettlesObjects number (take count sealed) old new → HasImage image (holding receipts old)
-      → HasImage (after image (take (end_of_last end (take count sealed) - end) entries))
-      (holding (receipts ++ receipts_of number (take count sealed)) new)
-  has_all zero number end entries owned list sealed receipts old new image known are follow all told most ends settles has =
-      let none : end - end ≡ 0 = omega arith in
-      rw (none, append-nil receipts, settles) has
-  has_all (suc count) number end entries owned list [] receipts old new image known are follow all told most ends settles has =
-      absurd (omega (arith, most))
-  has_all (suc count) number end entries owned [] (first ∷ sealed) receipts old new image known are follow all told most ends
-      settles has =
-      absurd are
-  has_all (suc count) number end entries owned (object ∷ list) (first ∷ sealed) receipts old new image known are follow all
-      told most ends settles has =
-      let part = take (object.end - end) entries in
-      let later = drop (object.end - end) entries in
-      let last = end_of_last object.end (take count sealed) in
-      let last_is : end_of_last first.end (take count sealed) ≡ last =
-      ap (λ e. end_of_last e (take count sealed)) are.0.end in
-      let next_owned = after_object (number + 1) object.content part owned in
-      let order : end ≤ object.end = goes_on object.content end object.end follow.0 in
-      let rest_order : object.end ≤ last = ends_later count (number + 1) object.end later next_owned list sealed are.1 follow.1 in
-      let sum : end_of_last first.end (take count sealed) - end ≡ object.end - end + (last - object.end) =
-      omega (arith, last_is, order, rest_order) in
-      let split : take (end_of_last first.end (take count sealed) - end) entries ≡ part ++ take (last - object.end) later =
-      ap (λ n. take n entries) sum ∙ take-add (object.end - end) (last - object.end) entries in
-      let ends_split = subst (All (EndsBy (length image))) split ends in
-      let part_ends : All (EndsBy (length image)) part = all_front (EndsBy (length image)) part (take (last - object.end) later)
-      ends_split in
-      let later_ends : All (EndsBy (length (after image part))) (take (last - object.end) later) =
-      rw (length-after image part part_ends) (all_back (EndsBy (length image)) part (take (last - object.end) later)
-      ends_split) in
-      let r = given first.receipt all.0 in
-      let tells = subst (λ o. IfSome o (IsReceiptFor first.bytes)) r.1 told.0 in
-      let one = has_one volume stream object.content first.rows number end (length first.bytes) object.end first.end entries owned
-      first.bytes receipts r.0 old settles.0 image known are.0.holds follow.0 tells part_ends settles.1 has in
-      let added = added_one (number + 1) (length first.bytes) first.rows first.end r.0 receipts old settles.0 settles.1 in
-      let known_now = up_to_next number (sealed_front first.rows) r.0 receipts (with_next (number + 1) r.0 receipts)
-      old.objects.rows settles.0.objects.rows added known in
-      let rest = has_all count (number + 1) object.end later next_owned list sealed (with_next (number + 1) r.0 receipts)
-      settles.0 new (after image part) known_now are.1 follow.1 all.1 told.1 (omega (arith, most)) later_ends settles.2 one in
-      let image_is : after image (take (end_of_last first.end (take count sealed) - end) entries)
-      ≡ after (after image part) (take (last - object.end) later) =
-      ap (after image) split ∙ applies_in_parts image part (take (last - object.end) later) in
-      rw (receipts_with number receipts first (take count sealed) r.0 r.1, image_is) rest
+  -- and what is in another object after it was there before
+  pub was_there : (stream : Stream) (content : Content) (rows : SealedRows) (number end size last settled_end : ℕ)
+      (entries : List Entry) (owned : Owners) (bytes : List ℕ) (old new : MapsState) (image : Image)
+      → HoldsContent stream (expected_at volume (number + 1) end) content (take (last - end) entries) owned last bytes rows
+      → GoesTo content end last → All (EndsBy (length image)) (take (last - end) entries)
+      → SettlesSealed (number + 1) size rows settled_end old new
+      → WasThere number old new image (after image (take (last - end) entries))
+  was_there stream contents.Data (sealed_rows.Data list) number end size last settled_end entries owned bytes old new image is
+      goes ends settles k source sector low live held =
+      let part = take (last - end) entries in
+      was_there_by_change number source is.payload (change_at part k) (settled_at old k)
+      (settled_by (number + 1) list.items (settled_at old k) k) (slice_get image k) sector low
+      (sector_placed number end last part bytes list.items is k (settled_at old k))
+      (subst (λ p. IsTrue (is_live source p)) (settles.settled k) live) (sector_made part image k sector ends held)
+  was_there stream (contents.Copy pairs) (sealed_rows.Copy list) number end size last settled_end entries owned bytes old new
+      image is goes ends settles k source sector low live held =
+      let none : last - end ≡ 0 = omega (arith, goes) in
+      let place = place_of_copy volume (number + 1) end pairs last bytes list.items is k (settled_at old k) in (
+        was_there_by_copy (is_in_source (source_in pairs k) (settled_at old k)) number source (place_in_copy pairs k)
+            (settled_at old k) low (subst (λ p. IsTrue (is_live source p)) (settles.settled k ∙ place.settled) live),
+        ap (λ n. slice_get (after image (take n entries)) k) (sym none) ∙ held,
+      )
+  was_there stream contents.Checkpoint sealed_rows.Checkpoint number end size last settled_end entries owned bytes old new image
+      is goes ends settles k source sector low live held =
+      let none : last - end ≡ 0 = omega (arith, goes) in
+      same_places number old new image (ap (λ (m : MapState ObjectPlace). m.rows) settles.settled) k source sector low live
+      (ap (λ n. slice_get (after image (take n entries)) k) (sym none) ∙ held)
+  was_there stream content rows number end size last settled_end entries owned bytes old new image is goes ends settles k source
+      sector low live held =
+      absurd is

@@ -6,7 +6,6 @@ use Rattle.std.specs.List.{All}
 use Rattle.std.proofs.lemmas.Bool.Decides.{nat_tests}
 use Rattle.std.proofs.lemmas.List.Elements.{All-head, All-tail, All-nil, All-cons}
 use Rattle.extent_map.specs.Extents.{is_within, IsShortest, place_after_set}
-use Rattle.object_format.specs.declared.data_row.DataRow.{DataRow}
 use Rattle.object_table.specs.declared.row.ObjectRow.{ObjectRow}
 use Rattle.object_table.specs.Table.{TableState, has_number, numbers, row_of, new_row, added, passed, acknowledged, with_changed}
 use Rattle.object_table.specs.Table.{without}
@@ -15,13 +14,13 @@ use Rattle.object_table.proofs.Rows.{its_number, found_above}
 use Rattle.object_table.proofs.Listed.{found_holds}
 use Rattle.volume_maps.specs.declared.place.ObjectPlace.{ObjectPlace}
 use Rattle.volume_maps.specs.Places.{object_on}
-use Rattle.volume_maps.specs.Maps.{MapsState, settled_at, settled_by}
+use Rattle.volume_maps.specs.Maps.{MapsState, settled_at}
 use Rattle.volume_maps.specs.Live.{is_live, IsCounted, MayGain, but_live, HasSameObjects}
 use Rattle.volume_maps.proofs.TableLemmas.{changed_unseen}
 use Rattle.object_uploads.specs.Order.{IsDeadIn, IsUnmappedIn, UnmappedAreDead}
-use Rattle.object_uploads.proofs.DeadLemmas.{nowhere, none_live}
+use Rattle.object_uploads.proofs.DeadLemmas.{nowhere, none_live, GivesAlone}
 use Rattle.object_uploads.proofs.DeadRows.{row_through, row_seen, row_still, dead_has_none, same_objects_dead, dead_settled}
-use Rattle.object_uploads.proofs.DeadRows.{dead_pinned, but_pins}
+use Rattle.object_uploads.proofs.DeadRows.{dead_pinned, but_held}
 
 -- ---- rows
 
@@ -87,16 +86,16 @@ none_new number payload front =
     (All-nil (λ (r : ObjectRow). r.is_unmapped ≡ false))
 
 -- the next object is settled
-pub unmapped_settled : (next payload front : ℕ) (list : List DataRow) (old new : MapsState)
-    → IsCounted old.settled.rows old.objects → All (λ (r : ObjectRow). r.number < next) old.objects.rows
+pub unmapped_settled : (next payload front : ℕ) (settle : Option ObjectPlace → ℕ → Option ObjectPlace) (old new : MapsState)
+    → GivesAlone next settle → IsCounted old.settled.rows old.objects → All (λ (r : ObjectRow). r.number < next) old.objects.rows
     → HasSameObjects (added (new_row next payload front) old.objects) new.objects
-    → ((k : ℕ) → settled_at new k ≡ settled_by next list (settled_at old k) k) → IsShortest object_on new.settled.rows
+    → ((k : ℕ) → settled_at new k ≡ settle (settled_at old k) k) → IsShortest object_on new.settled.rows
     → IsCounted new.settled.rows new.objects → UnmappedAreDead old → UnmappedAreDead new
-unmapped_settled next payload front list old new counted below same settled shortest now was =
+unmapped_settled next payload front settle old new gives counted below same settled shortest now was =
     let row = new_row next payload front in
     kept_unmapped old new was same.checkpoint
     (unmapped_back (row ∷ []) old new (none_new next payload front) same.rows)
-    (dead_settled next row list old new counted below same settled shortest now)
+    (dead_settled next row settle old new gives counted below same settled shortest now)
 
 -- one is found
 pub unmapped_found : (number payload front : ℕ) (old new : MapsState)
@@ -120,15 +119,15 @@ unmapped_same old new rows same was =
     kept_unmapped old new was same (λ n is. (is.0, sym (ap (row_of n) rows) ∙ is.1, is.2))
     (λ n dead. (dead.0, ap (row_of n) rows ∙ dead.1, dead.2, dead.3))
 
--- pins change
+-- what holds an object changes
 pub unmapped_pinned : (change : ObjectRow → ObjectRow) (changes : ℕ) (old new : MapsState)
-    → ((r : ObjectRow) → but_pins (change r) ≡ but_pins r) → new.objects ≡ with_changed change changes old.objects
+    → ((r : ObjectRow) → but_held (change r) ≡ but_held r) → new.objects ≡ with_changed change changes old.objects
     → UnmappedAreDead old → UnmappedAreDead new
 unmapped_pinned change changes old new keeps same was =
-    let views : map but_pins new.objects.rows ≡ map but_pins old.objects.rows =
-    ap (λ (t : TableState). map but_pins t.rows) same ∙ changed_unseen but_pins change changes old.objects.rows keeps in
+    let views : map but_held new.objects.rows ≡ map but_held old.objects.rows =
+    ap (λ (t : TableState). map but_held t.rows) same ∙ changed_unseen but_held change changes old.objects.rows keeps in
     kept_unmapped old new was (ap (λ (t : TableState). t.checkpoint) same) (λ n is.
-    let found = row_seen but_pins n new.objects.rows old.objects.rows is.0 (λ r. refl) (sym views) is.1 in
+    let found = row_seen but_held n new.objects.rows old.objects.rows is.0 (λ r. refl) (sym views) is.1 in
     let unmapped : found.0.is_unmapped ≡ is.0.is_unmapped = ap (λ (r : ObjectRow). r.is_unmapped) found.2 in
     (found.0, found.1, unmapped ∙ is.2))
     (dead_pinned change changes old new keeps same)

@@ -8,7 +8,6 @@ use Rattle.std.proofs.lemmas.List.Elements.{All-nil}
 use Rattle.extent_map.specs.State.{MapState}
 use Rattle.lsvd_names.specs.Names.{numbered_name}
 use Rattle.lsvd_objstore.specs.Store.{ReceiptState}
-use Rattle.object_format.specs.declared.data_row.DataRow.{DataRow}
 use Rattle.object_table.specs.declared.row.ObjectRow.{ObjectRow}
 use Rattle.object_table.specs.Table.{TableState, row_of}
 use Rattle.upload_window.specs.declared.object.OpenObject.{OpenObject}
@@ -18,7 +17,7 @@ use Rattle.volume_maps.specs.Maps.{MapsState, settled_at}
 use Rattle.volume_maps.specs.Live.{IsCounted, live_sectors}
 use Rattle.object_uploads.specs.declared.rows.SealedRows.{SealedRows}
 use Rattle.object_uploads.specs.State.{SealedState, QueueState, UploadsState}
-use Rattle.object_uploads.specs.Queue.{with_at, just_sealed, with_spare, with_receipt, is_checkpoint, FitSealed, FitObject}
+use Rattle.object_uploads.specs.Queue.{with_at, just_sealed, with_spare, with_receipt, is_checkpoint, FitSealed}
 use Rattle.object_uploads.specs.Queue.{HasSamePlaces, IsSettledBy, IsNextSettled, FirstWaits, sealed_at}
 use Rattle.object_uploads.specs.Order.{AreOpen, AreKnown, IsUploads, IsDeadIn, PlacesFit, PlacesFitIn}
 use Rattle.object_uploads.specs.Invariant.{IsOpenAt, IsKnown, KeepsAllButObjects, KeepsAllButFound}
@@ -30,7 +29,7 @@ use Rattle.object_uploads.proofs.BegunLemmas.{begun_taken}
 use Rattle.object_uploads.proofs.WaitingKept.{waiting_pushed, waiting_changed, waiting_done}
 use Rattle.object_uploads.proofs.NamesKept.{IsNamed, names_pushed, names_changed, names_given, names_dropped, named_settled}
 use Rattle.object_uploads.proofs.NamesKept.{named_pushed}
-use Rattle.object_uploads.proofs.PlacesKept.{all_fit, places_settled, object_fits}
+use Rattle.object_uploads.proofs.PlacesKept.{all_fit, places_settled, sealed_fits, settled_is}
 
 -- the whole, of its parts
 abbrev pub whole : (uuid : List ℕ) (sectors : ℕ) → QueueState → WindowState → UploadsState
@@ -301,8 +300,8 @@ uploads_done uuid sectors old_window window old given new number index count rec
 -- ---- the next object is adopted
 
 pub uploads_adopted : (uuid : List ℕ) (sectors : ℕ) (old_window window : WindowState) (old new : QueueState)
-    (rows : List DataRow) (end : ℕ) (receipt : ReceiptState)
-    → IsUploads (whole uuid sectors old old_window) → FitObject sectors rows
+    (rows : SealedRows) (end : ℕ) (receipt : ReceiptState)
+    → IsUploads (whole uuid sectors old old_window) → FitSealed sectors rows
     → receipt.name ≡ numbered_name uuid (old.frontier + 1)
     → IsNextSettled rows end receipt old new → IsKnown new → window ≡ record { last = new.frontier; objects = [] }
     → IsUploads (whole uuid sectors new window)
@@ -319,8 +318,9 @@ uploads_adopted uuid sectors old_window window old new rows end receipt are fit 
           are.known.named named));
       begun = All-nil (IsAtIfBegun (new.frontier + 1));
       waiting = rw next.sealed tt;
-      places = rw next.frontier (λ k. rw (next.maps.settled k) (object_fits sectors old.frontier k rows (settled_at old.maps k)
-          fit (are.places k)));
+      places = rw next.frontier (λ k.
+          rw (settled_is sectors (old.frontier + 1) receipt.size end rows old.maps new.maps next.maps k)
+          (sealed_fits sectors old.frontier k rows (settled_at old.maps k) fit (are.places k)));
     })
 
 -- ---- where nothing is past the frontier or known up to it, uploads begin

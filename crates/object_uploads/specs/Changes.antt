@@ -2,7 +2,6 @@
 use Rattle.std.specs.Prelude.{◌≡◌, ℕ, ◌+◌, ◌-◌, true, not, Bool, List, [], ◌∷◌, ◌++◌}
 use Rattle.lsvd_names.specs.Names.{numbered_name}
 use Rattle.lsvd_objstore.specs.Store.{ReceiptState}
-use Rattle.object_format.specs.declared.data_row.DataRow.{DataRow}
 use Rattle.upload_window.specs.Window.{entered, marked, acknowledged, is_started}
 use Rattle.object_uploads.specs.declared.rows.SealedRows.{SealedRows}
 use Rattle.object_uploads.specs.State.{JobState, QueueState, UploadsState}
@@ -75,7 +74,7 @@ pub record IsPutDone (number : ℕ) (receipt : ReceiptState) (old new : UploadsS
 
 -- the object of the next number, with these rows and this end, was counted as acknowledged: the store gave this for it, and it is
 -- settled
-pub record IsAdopted (rows : List DataRow) (end : ℕ) (receipt : ReceiptState) (old new : UploadsState) : Type 0 where
+pub record IsAdopted (rows : SealedRows) (end : ℕ) (receipt : ReceiptState) (old new : UploadsState) : Type 0 where
   pub uuid : new.uuid ≡ old.uuid
   pub sectors : new.sectors ≡ old.sectors
   pub window : new.window ≡ record { last = old.window.last + 1; objects = [] }

@@ -4,6 +4,7 @@ use Rattle.std.specs.List.{All, AllByRecursion, filter}
 use Rattle.extent_map.specs.declared.extent.Extent.{Extent}
 use Rattle.extent_map.specs.Extents.{IsShortest}
 use Rattle.ckpt_format.specs.declared.place.StoredPlace.{StoredPlace}
+use Rattle.object_format.specs.declared.copy_row.CopyRow.{CopyRow}
 use Rattle.object_format.specs.declared.data_row.DataRow.{DataRow}
 use Rattle.object_table.specs.declared.row.ObjectRow.{ObjectRow}
 use Rattle.object_table.specs.Table.{numbers}
@@ -11,14 +12,14 @@ use Rattle.object_table.specs.Lists.{Climbs}
 use Rattle.reverse_map.specs.declared.range.SectorRange.{SectorRange}
 use Rattle.volume_maps.specs.declared.place.ObjectPlace.{ObjectPlace}
 use Rattle.volume_maps.specs.Places.{object_on}
-use Rattle.volume_maps.specs.Maps.{RowsFit}
+use Rattle.volume_maps.specs.Maps.{RowsFit, CopyRowsFit}
 use Rattle.volume_maps.specs.Live.{IsCounted}
-use Rattle.volume_maps.specs.Covered.{CoverRows}
+use Rattle.volume_maps.specs.Covered.{CoverRows, CoverCopyRows}
 use Rattle.object_uploads.specs.declared.rows.SealedRows.{SealedRows}
-use Rattle.object_uploads.specs.declared.rows.SealedRows.TheVariants.{Data, Checkpoint}
+use Rattle.object_uploads.specs.declared.rows.SealedRows.TheVariants.{Data, Copy, Checkpoint}
 use Rattle.lsvd_objstore.specs.Store.{ReceiptState}
 use Rattle.object_uploads.specs.State.{SealedState, NumberedReceipt, QueueState}
-use Rattle.object_uploads.specs.Queue.{receipt_in}
+use Rattle.object_uploads.specs.Queue.{receipt_in, copied_sectors}
 use Rattle.object_uploads.specs.Removal.{without_receipt}
 use Rattle.object_uploads.specs.Order.{is_out, IsDeadIn, UnmappedAreDead, KnowFromCheckpoint}
 
@@ -33,19 +34,27 @@ pub record MapsCanTake (rows : List DataRow) : Type 0 where
   pub count : length rows ≤ 65536
   pub fit : RowsFit rows
 
--- the same of a sealed object's rows
+-- the same of the rows of a copy
+pub record MapsCanCopy (rows : List CopyRow) : Type 0 where
+  pub count : length rows ≤ 65536
+  pub copied : copied_sectors rows ≤ 131071
+  pub fit : CopyRowsFit rows
+
+-- and of any sealed object's
 abbrev pub MaySettle : SealedRows → Type 0
 MaySettle (Data list) = MapsCanTake list.items
+MaySettle (Copy list) = MapsCanCopy list.items
 MaySettle Checkpoint = Unit {0}
+
+-- and those of all objects past the frontier
+abbrev pub AllMaySettle : List SealedState → Type 0
+AllMaySettle sealed = AllByRecursion (λ (s : SealedState). MaySettle s.rows) sealed
 
 -- ranges have all sectors that a sealed object's rows put
 abbrev pub CoverSealed : List SectorRange → SealedRows → Type 0
 CoverSealed ranges (Data list) = CoverRows ranges list.items
+CoverSealed ranges (Copy list) = CoverCopyRows ranges list.items
 CoverSealed ranges Checkpoint = Unit {0}
-
--- and of those of all objects past the frontier
-abbrev pub AllMaySettle : List SealedState → Type 0
-AllMaySettle sealed = AllByRecursion (λ (s : SealedState). MaySettle s.rows) sealed
 
 -- a removal that is out leaves room for its receipt, which may come back
 abbrev pub count_out : Option ℕ → ℕ

@@ -7,8 +7,10 @@ use Rattle.lsvd_base.specs.declared.entry.Entry.{Entry}
 use Rattle.lsvd_objstore.specs.Store.{ReceiptState}
 use Rattle.lsvd_objstore.specs.Objects.{Objects, found}
 use Rattle.object_format.specs.declared.expected.Expected.{Expected}
+use Rattle.object_format.specs.declared.copy_row.CopyRow.{CopyRow}
 use Rattle.object_format.specs.declared.data_row.DataRow.{DataRow}
-use Rattle.object_stream.specs.declared.object.Content.TheVariants.{Data, Checkpoint}
+use Rattle.object_stream.specs.declared.object.CopiedSector.{CopiedSector}
+use Rattle.object_stream.specs.declared.object.Content.TheVariants.{Data, Copy, Checkpoint}
 use Rattle.object_stream.specs.declared.owner.Owner.{Owner}
 use Rattle.object_stream.specs.Stream.{Stream, Owners, owners, end_at, last_number, unsealed}
 use Rattle.object_stream.specs.Landed.{Numbers, IsFirstMissing}
@@ -23,7 +25,8 @@ use Rattle.object_uploads.specs.Order.{IsUploads}
 use Rattle.object_uploads.specs.Changes.{index_of, IsSealedNext, with_job, IsPutDone, IsAdopted}
 use Rattle.object_uploads.specs.Checkpoint.{expected_next, HasSealedCheckpoint}
 use Rattle.object_uploads.specs.Removal.{IsSameButObjects}
-use Rattle.object_uploads.specs.Stream.{HoldsEntries, AreOfStream}
+use Rattle.object_uploads.specs.Collection.{with_copied_all}
+use Rattle.object_uploads.specs.Stream.{HoldsEntries, HoldsCopy, AreOfStream}
 
 -- the numbers that were acknowledged
 abbrev pub acknowledged_in : WindowState → Numbers
@@ -86,7 +89,13 @@ with_entry entry stream = record stream { entries = stream.entries ++ entry ∷ 
 abbrev pub with_data_object : (end : ℕ) → Stream → Stream
 with_data_object end stream = record stream { objects = stream.objects ++ record { content = Data; end = end } ∷ [] }
 
--- and with a checkpoint more, which repeats the end before it
+-- with a copy of these sectors more, which repeats the end before it
+abbrev pub with_copy : List CopiedSector → Stream → Stream
+with_copy pairs stream = record stream {
+  objects = stream.objects ++ record { content = Copy pairs; end = end_at stream (last_number stream) } ∷ [];
+}
+
+-- and with a checkpoint more, which repeats it too
 abbrev pub with_checkpoint : Stream → Stream
 with_checkpoint stream = record stream {
   objects = stream.objects ++ record { content = Checkpoint; end = end_at stream (last_number stream) } ∷ [];
@@ -122,6 +131,17 @@ SealingKeepsStream =
     → IsSealedNext bytes (sealed_rows.Data rows) end old new
     → AreOfStream volume data_at (with_data_object end stream) new
 
+-- while a copy is sealed
+abbrev pub SealingCopyKeepsStream : Type 0
+SealingCopyKeepsStream =
+    (volume : Expected) (data_at : ℕ → ℕ) (stream : Stream) (old new : UploadsState) (pairs : List CopiedSector)
+    (bytes : List ℕ) (rows : Vec CopyRow)
+    → IsUploads old → AreOfStream volume data_at stream old
+    → HoldsCopy (expected_at volume (last_number stream + 1) (end_at stream (last_number stream))) pairs
+    (end_at stream (last_number stream)) bytes rows.items
+    → IsSealedNext bytes (sealed_rows.Copy rows) (end_at stream (last_number stream)) old new
+    → AreOfStream volume data_at (with_copy pairs stream) new
+
 -- while a checkpoint is sealed
 abbrev pub SealingCheckpointKeepsStream : Type 0
 SealingCheckpointKeepsStream =
@@ -135,6 +155,12 @@ abbrev pub RemovalsKeepStream : Type 0
 RemovalsKeepStream =
     (volume : Expected) (data_at : ℕ → ℕ) (stream : Stream) (old new : UploadsState) → IsSameButObjects old new
     → AreOfStream volume data_at stream old → AreOfStream volume data_at stream new
+
+-- the marks of a plan's sources change no more than these do
+abbrev pub MarksChangeObjectsAlone : Type 0
+MarksChangeObjectsAlone =
+    (is_copied : Bool) (numbers : List ℕ) (uploads : UploadsState)
+    → IsSameButObjects uploads (with_copied_all is_copied numbers uploads)
 
 -- while puts begin and fail
 abbrev pub JobsKeepStream : Type 0
@@ -163,9 +189,21 @@ with_adopted entries end stream = record stream {
 abbrev pub AdoptingKeepsStream : Type 0
 AdoptingKeepsStream =
     (volume : Expected) (data_at : ℕ → ℕ) (stream : Stream) (old new : UploadsState) (entries : List Entry) (bytes : List ℕ)
-    (rows : List DataRow) (end : ℕ) (receipt : ReceiptState)
+    (rows : Vec DataRow) (end : ℕ) (receipt : ReceiptState)
     → IsUploads old → AreOfStream volume data_at stream old → old.queue.sealed ≡ [] → unsealed stream ≡ []
     → end ≡ stream.end + length stream.entries + length entries → 0 < length entries
-    → HoldsEntries (expected_at volume (last_number stream + 1) (end_at stream (last_number stream))) entries end bytes rows
-    → IsAdopted rows end receipt old new
+    → HoldsEntries (expected_at volume (last_number stream + 1) (end_at stream (last_number stream))) entries end bytes
+    rows.items
+    → IsAdopted (sealed_rows.Data rows) end receipt old new
     → AreOfStream volume data_at (with_adopted entries end stream) new
+
+-- so it is while the next object is adopted that is a copy
+abbrev pub AdoptingCopyKeepsStream : Type 0
+AdoptingCopyKeepsStream =
+    (volume : Expected) (data_at : ℕ → ℕ) (stream : Stream) (old new : UploadsState) (pairs : List CopiedSector)
+    (bytes : List ℕ) (rows : Vec CopyRow) (receipt : ReceiptState)
+    → IsUploads old → AreOfStream volume data_at stream old → old.queue.sealed ≡ []
+    → HoldsCopy (expected_at volume (last_number stream + 1) (end_at stream (last_number stream))) pairs
+    (end_at stream (last_number stream)) bytes rows.items
+    → IsAdopted (sealed_rows.Copy rows) (end_at stream (last_number stream)) receipt old new
+    → AreOfStream volume data_at (with_copy pairs stream) new

@@ -5,6 +5,7 @@ pub mod Receipts
 pub mod Changes
 pub mod Checkpoint
 pub mod Removal
+pub mod Collection
 pub mod Invariant
 pub mod Opening
 pub mod Stream

@@ -5,17 +5,18 @@ use Rattle.std.specs.List.{AllByRecursion, sum_by}
 use Rattle.std.specs.Option.{option_or}
 use Rattle.lsvd_base.specs.declared.entry.Entry.{Entry}
 use Rattle.lsvd_objstore.specs.Store.{ReceiptState}
+use Rattle.object_format.specs.declared.copy_row.CopyRow.{CopyRow}
 use Rattle.object_format.specs.declared.data_row.DataRow.{DataRow}
-use Rattle.object_format.specs.Layout.{data_front_sectors}
+use Rattle.object_format.specs.Layout.{data_front_sectors, copy_front_sectors}
 use Rattle.object_stream.specs.declared.owner.Owner.{Owner}
 use Rattle.object_table.specs.declared.row.ObjectRow.{ObjectRow}
 use Rattle.object_table.specs.Table.{row_of, new_row, added, acknowledged}
 use Rattle.volume_maps.specs.declared.place.ObjectPlace.{ObjectPlace}
 use Rattle.volume_maps.specs.Places.{place_left_by}
-use Rattle.volume_maps.specs.Maps.{MapsState, settled_at, logged_at, settled_by, logged_by}
+use Rattle.volume_maps.specs.Maps.{MapsState, settled_at, logged_at, settled_by, logged_by, settled_by_copy}
 use Rattle.volume_maps.specs.Live.{HasSameObjects}
 use Rattle.object_uploads.specs.declared.rows.SealedRows.{SealedRows}
-use Rattle.object_uploads.specs.declared.rows.SealedRows.TheVariants.{Data, Checkpoint}
+use Rattle.object_uploads.specs.declared.rows.SealedRows.TheVariants.{Data, Copy, Checkpoint}
 use Rattle.object_uploads.specs.State.{SealedState, NumberedReceipt, StoredObject, QueueState}
 
 -- the objects with the one at an index changed
@@ -48,13 +49,23 @@ spare_of sealed = if sealed.has_spare then Some sealed.bytes else None
 
 -- ---- room
 
--- the sectors of an object with these rows before its payload
+-- the sectors of a data object with these rows before its payload, and of a copy
 abbrev pub front_of : List DataRow → ℕ
 front_of rows = data_front_sectors (length rows)
+
+abbrev pub copy_front_of : List CopyRow → ℕ
+copy_front_of rows = copy_front_sectors (length rows)
 
 -- the sectors of its payload, where it has so many bytes
 abbrev pub payload_of : (size : ℕ) → List DataRow → ℕ
 payload_of size rows = size / 512 - front_of rows
+
+abbrev pub copy_payload_of : (size : ℕ) → List CopyRow → ℕ
+copy_payload_of size rows = size / 512 - copy_front_of rows
+
+-- how many sectors the rows of a copy have
+abbrev pub copied_sectors : List CopyRow → ℕ
+copied_sectors rows = sum_by (λ (row : CopyRow). row.sectors) rows
 
 -- a row lies inside a volume of so many sectors, and what it has of a payload inside the greatest that there is
 pub record FitsVolume (sectors : ℕ) (row : DataRow) : Type 0 where
@@ -66,19 +77,40 @@ pub record FitObject (sectors : ℕ) (rows : List DataRow) : Type 0 where
   pub count : length rows ≤ 65536
   pub fit : AllByRecursion (FitsVolume sectors) rows
 
+-- so does a row of a copy
+pub record CopyFitsVolume (sectors : ℕ) (row : CopyRow) : Type 0 where
+  pub sectors_are : row.lba + row.sectors ≤ sectors
+  pub place : row.place + row.sectors ≤ 131071
+
+-- these may be the rows of a copy of such a volume: it has 65,536 at most, with no more sectors than the greatest payload, and
+-- each fits
+pub record FitCopy (sectors : ℕ) (rows : List CopyRow) : Type 0 where
+  pub count : length rows ≤ 65536
+  pub copied : copied_sectors rows ≤ 131071
+  pub fit : AllByRecursion (CopyFitsVolume sectors) rows
+
 -- the same of any sealed object's
 abbrev pub FitSealed : (sectors : ℕ) → SealedRows → Type 0
 FitSealed sectors (Data list) = FitObject sectors list.items
+FitSealed sectors (Copy list) = FitCopy sectors list.items
 FitSealed sectors Checkpoint = Unit {0}
 
 -- the rows are those of a checkpoint
 abbrev pub is_checkpoint : SealedRows → Bool
 is_checkpoint (Data list) = false
+is_checkpoint (Copy list) = false
 is_checkpoint Checkpoint = true
 
--- how many rows change the maps
+-- the rows are those of a copy
+abbrev pub is_copy : SealedRows → Bool
+is_copy (Data list) = false
+is_copy (Copy list) = true
+is_copy Checkpoint = false
+
+-- how many changes of the maps they may take: each sector of a copy may be in a place apart
 abbrev pub count_of_rows : SealedRows → ℕ
 count_of_rows (Data list) = length list.items
+count_of_rows (Copy list) = copied_sectors list.items
 count_of_rows Checkpoint = 0
 
 abbrev pub row_count : SealedState → ℕ
@@ -124,6 +156,7 @@ pub record IsEntered (entry : Entry) (seq data_at : ℕ) (old new : QueueState) 
 -- a sector's place after the object of a number was settled, and after those were that come after one of a number
 abbrev pub settled_by_rows : (number : ℕ) → SealedRows → Option ObjectPlace → ℕ → Option ObjectPlace
 settled_by_rows number (Data list) before k = settled_by number list.items before k
+settled_by_rows number (Copy list) before k = settled_by_copy number list.items before k
 settled_by_rows number Checkpoint before k = before
 
 abbrev pub settled_by_all : (number : ℕ) → List SealedState → Option ObjectPlace → ℕ → Option ObjectPlace
@@ -195,6 +228,13 @@ pub record SettlesObject (number size : ℕ) (rows : List DataRow) (end : ℕ) (
   pub logged : (k : ℕ) → logged_at new k ≡ logged_by end rows (logged_at old k) k
   pub objects : HasSameObjects (added (new_row number (payload_of size rows) (front_of rows)) old.objects) new.objects
 
+-- the copy of a number was: the log's map stays
+pub record SettlesCopy (number size : ℕ) (rows : List CopyRow) (old new : MapsState) : Type 0 where
+  pub settled : (k : ℕ) → settled_at new k ≡ settled_by_copy number rows (settled_at old k) k
+  pub logged : (k : ℕ) → logged_at new k ≡ logged_at old k
+  pub objects :
+      HasSameObjects (added (new_row number (copy_payload_of size rows) (copy_front_of rows)) old.objects) new.objects
+
 -- the checkpoint of a number was: it changes no place, and from then on the table's objects are passed by it
 pub record SettlesCheckpoint (number : ℕ) (old new : MapsState) : Type 0 where
   pub settled : new.settled ≡ old.settled
@@ -203,6 +243,7 @@ pub record SettlesCheckpoint (number : ℕ) (old new : MapsState) : Type 0 where
 
 abbrev pub SettlesSealed : (number size : ℕ) → SealedRows → (end : ℕ) → (old new : MapsState) → Type 0
 SettlesSealed number size (Data list) end old new = SettlesObject number size list.items end old new
+SettlesSealed number size (Copy list) end old new = SettlesCopy number size list.items old new
 SettlesSealed number size Checkpoint end old new = SettlesCheckpoint number old new
 
 -- those after one of a number were, in their order
@@ -224,13 +265,13 @@ pub record IsSettledBy (count : ℕ) (old new : QueueState) : Type 0 where
   pub maps : SettlesObjects old.frontier (take count old.sealed) old.maps new.maps
 
 -- The object of the next number, with these rows and this end, was settled, and the store gave this for it. None is past it.
-pub record IsNextSettled (rows : List DataRow) (end : ℕ) (receipt : ReceiptState) (old new : QueueState) : Type 0 where
+pub record IsNextSettled (rows : SealedRows) (end : ℕ) (receipt : ReceiptState) (old new : QueueState) : Type 0 where
   pub frontier : new.frontier ≡ old.frontier + 1
   pub ends : new.end ≡ end
   pub sealed : new.sealed ≡ []
   pub receipts : new.receipts ≡ old.receipts ++ record { number = old.frontier + 1; receipt = receipt } ∷ []
   pub removal : new.removal ≡ old.removal
-  pub maps : SettlesObject (old.frontier + 1) receipt.size rows end old.maps new.maps
+  pub maps : SettlesSealed (old.frontier + 1) receipt.size rows end old.maps new.maps
 
 -- an acknowledged object does not stand first
 abbrev pub IsWaiting : Option ReceiptState → Type 0

@@ -1,17 +1,21 @@
 -- Contract: when the objects on their way to the store are those of a stream, and what a recovery finds of them.
 use Rattle.std.specs.Prelude.{◌≡◌, ℕ, ◌+◌, ◌-◌, ◌<◌, ◌≤◌, Option, IfSome, List, [], ◌∷◌, take, drop}
+use Rattle.std.specs.List.{slice_get}
 use Rattle.lsvd_base.specs.declared.entry.Entry.{Entry}
 use Rattle.object_format.specs.declared.header.Header.{Header}
 use Rattle.object_format.specs.declared.expected.Expected.{Expected}
+use Rattle.object_format.specs.declared.copy_row.CopyRow.{CopyRow}
 use Rattle.object_format.specs.declared.data_row.DataRow.{DataRow}
 use Rattle.object_format.specs.declared.rows.Rows.{Rows}
 use Rattle.object_format.specs.declared.rows.Rows.TheVariants as rows
+use Rattle.object_stream.specs.declared.object.CopiedSector.{CopiedSector}
 use Rattle.object_stream.specs.declared.object.Content.{Content}
-use Rattle.object_stream.specs.declared.object.Content.TheVariants.{Data, Checkpoint}
+use Rattle.object_stream.specs.declared.object.Content.TheVariants.{Data, Copy, Checkpoint}
 use Rattle.object_stream.specs.declared.object.StreamObject.{StreamObject}
-use Rattle.object_stream.specs.Changes.{change_at, change_in, place_in_payload}
+use Rattle.object_stream.specs.Changes.{change_at, change_in}
 use Rattle.object_stream.specs.Stream.{Stream, Owners, owners, after_object, end_at, last_number, IsStream, entries_in_object}
-use Rattle.object_stream.specs.Replay.{HasParts, expected_at}
+use Rattle.object_stream.specs.Stream.{source_in, place_in_object}
+use Rattle.object_stream.specs.Replay.{HasParts, expected_at, source_at}
 use Rattle.object_stream.specs.Laws.{from_object}
 use Rattle.volume_maps.specs.declared.place.ObjectPlace.{ObjectPlace}
 use Rattle.volume_maps.specs.Places.{left_at}
@@ -42,11 +46,34 @@ pub record HoldsEntries (expected : Expected) (entries : List Entry) (end : ℕ)
   pub ends : header.end_seq ≡ end
   pub changes : (k : ℕ) → change_in list payload k ≡ change_at entries k
 
+-- the rows of a copy are these
+abbrev pub AreCopyRows : Rows → List CopyRow → Type 0
+AreCopyRows (rows.Data list) items = ⊥
+AreCopyRows (rows.Copy list) items = list.items ≡ items
+AreCopyRows rows.Checkpoint items = ⊥
+
+-- bytes are the copy of these sectors, of the grammar under the expected number: its rows have each of them from its source
+pub record HoldsCopy (expected : Expected) (pairs : List CopiedSector) (end : ℕ) (bytes : List ℕ) (list : List CopyRow) :
+    Type 0 where
+  pub header : Header
+  pub rows_of : Rows
+  pub payload : List ℕ
+  pub parts : HasParts expected bytes header rows_of payload
+  pub rows_are : AreCopyRows rows_of list
+  pub ends : header.end_seq ≡ end
+  pub sources : (k : ℕ) → source_at list k ≡ source_in pairs k
+
+-- the object of a number, of those that come after the one that the stream opens with
+abbrev pub object_at : Stream → (number : ℕ) → Option StreamObject
+object_at stream number = slice_get stream.objects (number - (stream.number + 1))
+
 -- A place is where an object of the stream has a sector in its payload. Of the objects that the stream opens with nothing is
 -- said.
 abbrev pub IsPlacedIn : Stream → (k : ℕ) → ObjectPlace → Type 0
 IsPlacedIn stream k place =
-    place.level ≡ 0 → stream.number < place.number → place.sector ≡ place_in_payload (entries_in_object stream place.number) k
+    place.level ≡ 0 → stream.number < place.number
+    → IfSome (object_at stream place.number)
+    (λ object. place.sector ≡ place_in_object object.content (entries_in_object stream place.number) k)
 
 -- they are a checkpoint under the expected number, of these owners: each place is where its object has the sector
 pub record HoldsOwners (stream : Stream) (expected : Expected) (owned : Owners) (end : ℕ) (bytes : List ℕ) : Type 0 where
@@ -55,11 +82,13 @@ pub record HoldsOwners (stream : Stream) (expected : Expected) (owned : Owners) 
   pub owners_are : (k : ℕ) → place_owner (places k) ≡ owned k
   pub placed : (k : ℕ) → IfSome (places k) (IsPlacedIn stream k)
 
--- Bytes and rows are those of an object of a stream with this content: of a data object of these entries, or of a checkpoint of
--- the owners before it. A copy is sealed nowhere yet.
+-- Bytes and rows are those of an object of a stream with this content: of a data object of these entries, of a copy of its
+-- sectors, or of a checkpoint of the owners before it.
 abbrev pub HoldsContent : Stream → Expected → Content → List Entry → Owners → (end : ℕ) → (bytes : List ℕ) → SealedRows → Type 0
 HoldsContent stream expected Data entries before end bytes (sealed_rows.Data list) =
     HoldsEntries expected entries end bytes list.items
+HoldsContent stream expected (Copy pairs) entries before end bytes (sealed_rows.Copy list) =
+    HoldsCopy expected pairs end bytes list.items
 HoldsContent stream expected Checkpoint entries before end bytes sealed_rows.Checkpoint =
     HoldsOwners stream expected before end bytes
 HoldsContent stream expected content entries before end bytes rows = ⊥

@@ -7,33 +7,39 @@ ghost use Rattle.lsvd_base.specs.Laws.{first_sector, sector_count};
 ghost use Rattle.extent_map.specs.Extents.{place_at, place_after_set};
 ghost use Rattle.object_table.specs.Table.{row_of, without, new_row, acknowledged, with_changed, pinned};
 ghost use Rattle.object_table.specs.Table.{unpinned, IsNewest};
+ghost use Rattle.gc_copier.specs.Plan.{all_seen, numbers_of};
 ghost use Rattle.volume_maps.specs.Places.{log_number, row_left_by, object_on};
 ghost use Rattle.volume_maps.specs.Maps.{settled_at};
 ghost use Rattle.volume_maps.specs.Live.{MayGain, HasSameObjects};
-ghost use Rattle.volume_maps.specs.Covered.{CoverRows};
+ghost use Rattle.volume_maps.specs.Covered.{CoverRows, CoverCopyRows};
 ghost use Rattle.object_uploads.specs.Checkpoint.{HoldsPlaces};
 ghost use Rattle.object_uploads.specs.Order.{PlacesFitIn};
 ghost use Rattle.object_uploads.specs.Removal.{IsRemovedNext, with_receipt_of};
-ghost use Rattle.object_uploads.specs.Invariant.{IsOpenAt, MapsCanTake, MaySettle, CoverSealed};
+ghost use Rattle.object_uploads.specs.Invariant.{IsOpenAt, MapsCanTake, MapsCanCopy, MaySettle, CoverSealed};
 ghost use Rattle.object_uploads.specs.Invariant.{count_out, IsKnown};
 ghost use Rattle.object_uploads.specs.Invariant.{KeepsAllButObjects, KeepsAllButFound, TakesFromQueue};
 ghost use Rattle.object_uploads.specs.State.{QueueState};
 ghost use Rattle.object_uploads.specs.Queue.{with_at, just_sealed, with_spare, with_receipt, front_of};
+ghost use Rattle.object_uploads.specs.Queue.{copy_front_of, copied_sectors};
 ghost use Rattle.object_uploads.specs.Queue.{HasBytesAt, HasRoomForEntry, end_of_last, sealed_at, row_count};
 ghost use Rattle.object_uploads.specs.Queue.{HasRoomForObject, HasSamePlaces, IsEntered, IsSettledBy};
-ghost use Rattle.object_uploads.specs.Queue.{SettlesObject, SettlesCheckpoint, IsNextSettled, FirstWaits};
-ghost use Rattle.object_uploads.specs.Queue.{stored_at, pins_of, newest_checkpoint};
+ghost use Rattle.object_uploads.specs.Queue.{SettlesObject, SettlesCopy, SettlesCheckpoint, SettlesSealed};
+ghost use Rattle.object_uploads.specs.Queue.{IsNextSettled, FirstWaits};
+ghost use Rattle.object_uploads.specs.Queue.{stored_at, pins_of, newest_checkpoint, is_checkpoint};
 ghost use Rattle.object_uploads.specs.declared.rows.SealedRows.TheVariants.{Data, Checkpoint};
 ghost use Rattle.object_uploads.specs.Changes.{HasSameSettled};
+ghost use Rattle.object_uploads.specs.Collection.{marked, marked_in};
+ghost use Rattle.object_uploads.specs.Image.{TellAlike};
 
 use crate::checkpoint::write_map;
 use crate::receipts::Receipts;
 use crate::rows::SealedRows;
 use crate::sealed::Sealed;
 use extent_map::{Extent, ExtentMap};
+use gc_copier::PlanSource;
 use lsvd_base::{Entry, ObjectBytes, SECTOR_BYTES};
 use lsvd_objstore::Receipt;
-use object_format::{DataRow, Expected, data_front_sectors};
+use object_format::{CopyRow, DataRow, Expected, copy_front_sectors, data_front_sectors};
 use reverse_map::SectorRange;
 use std::alloc::{AllocError, Global};
 use std::collections::VecDeque;
@@ -46,7 +52,8 @@ pub(crate) struct Queue<R: Receipt> {
     frontier: u64,
     end: u64,
     sealed: VecDeque<Sealed<R>>,
-    // The rows of the sealed objects, counted here so that a seal need not go over them.
+    // The changes of the maps that the sealed objects may take, counted here so that a seal need not go over
+    // their rows.
     rows: usize,
     receipts: Receipts<R>,
     // The object whose removal is out. There is room for its receipt, which may come back.
@@ -60,6 +67,7 @@ impl<R: Receipt> Model for Queue<R> {
     ghost use Rattle.std.specs.VecDeque.{deque_capacity};
     ghost use Rattle.object_uploads.specs.State.{QueueState};
     ghost use Rattle.object_uploads.specs.Queue.{row_count, HasRoomForRows};
+    ghost use Rattle.object_uploads.specs.Receipts.{AreSealedStates};
     ghost use Rattle.object_uploads.specs.Invariant.{AllMaySettle, count_out, IsKnown};
 
     ghost Value = { QueueState };
@@ -92,7 +100,8 @@ impl<R: Receipt> Model for Queue<R> {
         × AllMaySettle q.sealed.items
         × (length q.sealed.items + count_out q.removal ≤ q.receipts.spare)
         × (length q.sealed.items ≤ q.maps.objects.spare)
-        × (q.frontier + length q.sealed.items < 2 ^ 64) };
+        × (q.frontier + length q.sealed.items < 2 ^ 64)
+        × AreSealedStates R.state q.sealed.items };
 }
 
 impl<R: Receipt> Queue<R> {
@@ -117,6 +126,15 @@ impl<R: Receipt> Queue<R> {
             removal: None,
             maps: VolumeMaps::new(alloc),
         }
+    }
+
+    // Whether receipts tell their bytes is the same of all, as a fact for proofs; and all do where each
+    // receipt of their kind does. Nothing is done.
+    pub(crate) fn tell_alike(&self)
+        ensures alike { TellAlike R.tells self.now }
+        ensures told { ((receipt : R) → IsSome (R.state receipt).told) → TellAlike true self.now }
+    {
+        self.receipts.tell_alike();
     }
 
     // Appends a sealed object, with all the room that it needs later. The ranges have all sectors that its
@@ -144,7 +162,7 @@ impl<R: Receipt> Queue<R> {
         ensures places { HasSamePlaces self.old.maps self.new.maps }
         ensures log_kept { self.old.maps.log.spare ≤ self.new.maps.log.spare }
     {
-        // The room of a map is a `usize`; so rows that there is room for are not too many to be counted.
+        // The room of a map is a `usize`; so changes that there is room for are not too many to be counted.
         let _spare = self.maps.log_spare();
         let Some(all) = self.rows.checked_add(rows.count()) else {
             return Err(AllocError);
@@ -183,11 +201,35 @@ impl<R: Receipt> Queue<R> {
         let size = sealed.size();
         let (rows, ranges, end, receipt) = sealed.into_parts();
         self.rows -= rows.count();
-        match &rows {
-            SealedRows::Data(rows) => {
-                self.settle_object(size, rows.as_slice(), ranges, end, receipt.unwrap());
-            }
-            SealedRows::Checkpoint => self.settle_checkpoint(end, receipt.unwrap()),
+        self.settle_sealed(size, &rows, ranges, end, receipt.unwrap());
+    }
+
+    // Settles an object of so many bytes that comes after the frontier and before all that are past it. There
+    // is room for one object more with its rows, and they fit. The ranges have all sectors that they put.
+    fn settle_sealed(
+        &mut self,
+        size: u64,
+        rows: &SealedRows,
+        ranges: Vec<SectorRange>,
+        end: u64,
+        receipt: R,
+    )
+        requires covered { CoverSealed ranges.items rows.now }
+        requires room { HasRoomForObject rows.now self.old }
+        requires fit { MaySettle rows.now }
+        requires numbers { self.old.frontier + length self.old.sealed + 1 < 2 ^ 64 }
+        ensures frontier { self.new.frontier ≡ self.old.frontier + 1 }
+        ensures end { self.new.end ≡ end }
+        ensures sealed { self.new.sealed ≡ self.old.sealed }
+        ensures receipts { self.new.receipts ≡ self.old.receipts
+            ++ record { number = self.old.frontier + 1; receipt = R.state receipt } ∷ [] }
+        ensures removal { self.new.removal ≡ self.old.removal }
+        ensures maps { SettlesSealed (self.old.frontier + 1) size rows.now end self.old.maps self.new.maps }
+    {
+        match rows {
+            SealedRows::Data(rows) => self.settle_object(size, rows, ranges, end, receipt),
+            SealedRows::Copy(rows) => self.settle_copy(size, rows, ranges, end, receipt),
+            SealedRows::Checkpoint => self.settle_checkpoint(end, receipt),
         }
     }
 
@@ -341,6 +383,23 @@ impl<R: Receipt> Queue<R> {
         self.maps.unpin(number);
     }
 
+    // A plan of a copy takes sectors from these, or takes none any longer. One that is not known changes
+    // nothing.
+    pub(crate) fn mark(&mut self, sources: &[PlanSource<R>], is_copied: bool)
+        ensures { self.new ≡ marked_in is_copied (numbers_of (all_seen R.state sources.now)) self.old }
+    {
+        for source in sources {
+            self.mark_one(source.number, is_copied);
+        }
+    }
+
+    // A plan of a copy takes sectors from the object of a number, or takes none any longer.
+    fn mark_one(&mut self, number: u64, is_copied: bool)
+        ensures { self.new ≡ marked is_copied number self.old }
+    {
+        self.maps.set_copied(number, is_copied);
+    }
+
     // How many pins are on an object, none on one that is not known.
     pub(crate) fn pins(&self, number: u64) -> u64
         ensures { result ≡ pins_of (row_of number self.now.maps.objects.rows) }
@@ -432,8 +491,7 @@ impl<R: Receipt> Queue<R> {
         Ok(())
     }
 
-    // Settles an object of so many bytes that comes after the frontier and before all that are past it. There
-    // is room for one object more, and it fits. The ranges have all sectors that its rows put.
+    // Settles a data object of so many bytes there, as `settle_sealed` does.
     fn settle_object(
         &mut self,
         size: u64,
@@ -468,23 +526,58 @@ impl<R: Receipt> Queue<R> {
         self.receipts.push(self.frontier, receipt);
     }
 
+    // Settles a copy of so many bytes there, as `settle_sealed` does.
+    fn settle_copy(
+        &mut self,
+        size: u64,
+        rows: &[CopyRow],
+        ranges: Vec<SectorRange>,
+        end: u64,
+        receipt: R,
+    )
+        requires covered { CoverCopyRows ranges.items rows.now }
+        requires place { 1 ≤ self.old.places }
+        requires settled { sum_by row_count self.old.sealed + copied_sectors rows.now
+            ≤ self.old.maps.settled.spare }
+        requires fit { MapsCanCopy rows.now }
+        requires numbers { self.old.frontier + length self.old.sealed + 1 < 2 ^ 64 }
+        ensures frontier { self.new.frontier ≡ self.old.frontier + 1 }
+        ensures end { self.new.end ≡ end }
+        ensures sealed { self.new.sealed ≡ self.old.sealed }
+        ensures receipts { self.new.receipts ≡ self.old.receipts
+            ++ record { number = self.old.frontier + 1; receipt = R.state receipt } ∷ [] }
+        ensures removal { self.new.removal ≡ self.old.removal }
+        ensures maps { SettlesCopy (self.old.frontier + 1) size rows.now self.old.maps self.new.maps }
+    {
+        let front = copy_front_of(rows);
+        self.frontier += 1;
+        self.end = end;
+        let object = NewObject {
+            number: self.frontier,
+            payload: payload_of(size, front),
+            front,
+        };
+        self.maps.settle_copy(object, rows, ranges);
+        self.receipts.push(self.frontier, receipt);
+    }
+
     // Settles the next number's object, where none is past the frontier. The ranges have all sectors that its
     // rows put. The one error is out of memory, which comes only where room for it is missing; then only room
     // changed.
     pub(crate) fn adopt(
         &mut self,
-        rows: &[DataRow],
+        rows: SealedRows,
         ranges: Vec<SectorRange>,
         end: u64,
         receipt: R,
     ) -> Result<(), AllocError>
-        requires covered { CoverRows ranges.items rows.now }
+        requires covered { CoverSealed ranges.items rows }
         requires none { self.old.sealed ≡ [] }
         requires numbers { self.old.frontier + 1 < 2 ^ 64 }
-        requires fit { MapsCanTake rows.now }
-        ensures settled { OnOk result (IsNextSettled rows.now end (R.state receipt) self.old self.new) }
-        ensures succeeds { 1 ≤ self.old.places → length rows.now ≤ self.old.maps.settled.spare
-            → length rows.now ≤ self.old.maps.log.spare → IsOk result }
+        requires no_checkpoint { is_checkpoint rows ≡ false }
+        requires fit { MaySettle rows }
+        ensures settled { OnOk result (IsNextSettled rows end (R.state receipt) self.old self.new) }
+        ensures succeeds { HasRoomForObject rows self.old → IsOk result }
         ensures sealed { OnErr result (self.new.sealed ≡ self.old.sealed) }
         ensures same { OnErr result (HasSameSettled self.old self.new) }
     {
@@ -494,10 +587,10 @@ impl<R: Receipt> Queue<R> {
             &mut self.receipts,
             &mut self.maps,
             receipts,
-            rows.len(),
+            rows.count(),
         )?;
         let size = receipt.len();
-        self.settle_object(size, rows, ranges, end, receipt);
+        self.settle_sealed(size, &rows, ranges, end, receipt);
         Ok(())
     }
 
@@ -641,8 +734,8 @@ impl<R: Receipt> Queue<R> {
     }
 }
 
-// Makes room for one more object, where so many receipts may come and all objects have so many rows then. The
-// one error is out of memory, which comes only where that room is missing.
+// Makes room for one more object, where so many receipts may come and all objects may take so many changes of
+// the maps then. The one error is out of memory, which comes only where that room is missing.
 fn make_room<R: Receipt>(
     sealed: &mut VecDeque<Sealed<R>>,
     receipts: &mut Receipts<R>,
@@ -673,12 +766,20 @@ fn make_room<R: Receipt>(
     maps.reserve(rows, rows, sealed.len() + 1)
 }
 
-// The sectors of an object with these rows before its payload.
+// The sectors of a data object with these rows before its payload.
 fn front_of(rows: &[DataRow]) -> u64
     requires { length rows.now ≤ 65536 }
     ensures { result ≡ front_of rows.now }
 {
     data_front_sectors(rows.len() as u64)
+}
+
+// Those of a copy with these rows.
+fn copy_front_of(rows: &[CopyRow]) -> u64
+    requires { length rows.now ≤ 65536 }
+    ensures { result ≡ copy_front_of rows.now }
+{
+    copy_front_sectors(rows.len() as u64)
 }
 
 // The sectors of payload of an object of so many bytes that has so many sectors before it.

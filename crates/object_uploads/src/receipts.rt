@@ -1,7 +1,7 @@
 ghost use Rattle.std.specs.Prelude.{◌≡◌, ◌+◌, ◌≤◌, ◌++◌, ◌∷◌, [], length, None, OnOk, IsOk, option_map};
 ghost use Rattle.object_uploads.specs.Queue.{receipt_in};
 ghost use Rattle.object_uploads.specs.Removal.{without_receipt, with_receipt_of};
-ghost use Rattle.object_uploads.specs.Receipts.{MayCome};
+ghost use Rattle.object_uploads.specs.Receipts.{MayCome, AreStates};
 
 use lsvd_objstore::Receipt;
 use std::alloc::{AllocError, Global};
@@ -30,7 +30,7 @@ pub(crate) struct Receipts<R: Receipt> {
 
 impl<R: Receipt> Model for Receipts<R> {
     ghost use Rattle.std.specs.Prelude.{◌-◌, length, vec_capacity};
-    ghost use Rattle.object_uploads.specs.Receipts.{ReceiptsState, Ascend};
+    ghost use Rattle.object_uploads.specs.Receipts.{ReceiptsState, Ascend, AreStates};
 
     ghost Value = { ReceiptsState };
 
@@ -39,7 +39,7 @@ impl<R: Receipt> Model for Receipts<R> {
       spare = vec_capacity r.list - length r.list.items;
     } };
 
-    ghost invariant = { λ r. Ascend r.list.items };
+    ghost invariant = { λ r. Ascend r.list.items × AreStates R.state r.list.items };
 }
 
 impl<R: Receipt> Receipts<R> {
@@ -50,6 +50,13 @@ impl<R: Receipt> Receipts<R> {
         Receipts {
             list: Vec::new(alloc),
         }
+    }
+
+    // Each is what is seen of a receipt of this kind, as a fact for proofs. Nothing is done.
+    pub(crate) fn tell_alike(&self)
+        ensures { AreStates R.state self.now.list }
+    {
+        let _list = &self.list;
     }
 
     // Makes room for so many more. The one error is out of memory, which comes only where that room is

@@ -94,8 +94,8 @@ impl<R: Receipt> Sealed<R> {
         self.end
     }
 
-    // Settles its rows in a map, as those of the object of a number. There is room for a change for each row,
-    // and they fit.
+    // Settles its rows in a map, as those of the object of a number. There is room for the changes, and they
+    // fit.
     pub(crate) fn settle_in(&self, map: &mut ExtentMap<ObjectPlace>, number: u64)
         requires room { row_count self.now ≤ map.old.spare }
         requires fit { MaySettle self.now.rows }

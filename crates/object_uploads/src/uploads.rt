@@ -1,41 +1,48 @@
 ghost use Rattle.std.specs.Prelude.{◌≡◌, ◌+◌, ◌-◌, ◌<◌, ◌≤◌, ◌^◌, ℕ, ◌↔◌, [], length, option_map};
-ghost use Rattle.std.specs.Prelude.{IsTrue, IsOk, IsErr, IfOk, IfErr, IfSome, IfNone, OnOk, OnErr, true};
+ghost use Rattle.std.specs.Prelude.{IsTrue, IsOk, IsErr, IfOk, IfErr, IfSome};
+ghost use Rattle.std.specs.Prelude.{IfNone, OnOk, OnErr, true, IsSome};
 ghost use Rattle.std.specs.Prelude.{false, Some, None};
 ghost use Rattle.lsvd_base.specs.Laws.{first_sector, sector_count};
 ghost use Rattle.lsvd_names.specs.Names.{numbered_name};
 ghost use Rattle.extent_map.specs.Extents.{place_at, place_in_range, IsShortest, AllFit};
-ghost use Rattle.object_table.specs.Table.{row_of, pinned, unpinned, IsNewest};
+ghost use Rattle.gc_copier.specs.Plan.{numbers_of};
+ghost use Rattle.object_table.specs.Table.{row_of, pinned, unpinned, candidates, IsNewest};
 ghost use Rattle.upload_window.specs.Window.{lowest_ready, IsFrontier};
 ghost use Rattle.volume_maps.specs.Places.{volume_on, volume_number, log_number, row_left_by};
 ghost use Rattle.volume_maps.specs.Maps.{volume_place_at};
 ghost use Rattle.volume_maps.specs.Live.{MayGain};
-ghost use Rattle.volume_maps.specs.Covered.{CoverRows};
-ghost use Rattle.object_uploads.specs.declared.rows.SealedRows.TheVariants.{Data};
-ghost use Rattle.object_uploads.specs.Queue.{FitObject, HasRoomForEntry, HasRoomForObject, IsEntered};
+ghost use Rattle.volume_maps.specs.Covered.{CoverRows, CoverCopyRows};
+ghost use Rattle.object_uploads.specs.declared.rows.SealedRows.TheVariants.{Data, Copy};
+ghost use Rattle.object_uploads.specs.Queue.{FitObject, FitCopy, FitSealed, HasRoomForEntry};
+ghost use Rattle.object_uploads.specs.Queue.{HasRoomForObject, IsEntered, is_checkpoint, end_of_last};
 ghost use Rattle.object_uploads.specs.Queue.{stored_at, pins_of, newest_checkpoint};
 ghost use Rattle.object_uploads.specs.Order.{IsUploads};
-ghost use Rattle.object_uploads.specs.Invariant.{IsOpenAt};
+ghost use Rattle.object_uploads.specs.Invariant.{IsOpenAt, CoverSealed};
 ghost use Rattle.object_uploads.specs.Changes.{index_of, IsSealedNext, IsNotSealed, with_job, IsJobOf, IsOut};
 ghost use Rattle.object_uploads.specs.Changes.{IsPutDone, IsAdopted};
 ghost use Rattle.object_uploads.specs.Checkpoint.{expected_next, HasSealedCheckpoint};
 ghost use Rattle.object_uploads.specs.Removal.{IsRemovedNext, TakesRemoval, FinishesRemoval};
 ghost use Rattle.object_uploads.specs.Removal.{TakesBackRemoval, HasChangedPins};
 ghost use Rattle.object_uploads.specs.Opening.{HasFound, HasMapped, HasBegun};
+ghost use Rattle.object_uploads.specs.Collection.{ArePlacesInside, HasPlanned, with_copied_all};
+ghost use Rattle.object_uploads.specs.Image.{TellAlike};
 
+use crate::collection::sources_of;
 use crate::job::Job;
 use crate::queue::Queue;
 use crate::rows::SealedRows;
 use extent_map::Extent;
+use gc_copier::GcPlan;
 use lsvd_base::{Entry, ObjectBytes};
 use lsvd_names::ObjName;
 use lsvd_objstore::Receipt;
-use object_format::{DataRow, Expected};
+use object_format::{CopyRow, DataRow, Expected};
 use reverse_map::SectorRange;
 use std::alloc::{AllocError, Global};
 use std::marker::Model;
 use upload_window::Window;
 use uuid::Uuid;
-use volume_maps::{ObjectPlace, VolumePlace, put_ranges};
+use volume_maps::{ObjectPlace, VolumePlace, copied_ranges, put_ranges};
 
 /// The objects of a volume on their way to the store, and the maps of what the log and the objects have.
 ///
@@ -112,6 +119,38 @@ impl<R: Receipt> Uploads<R> {
         put_ranges(alloc, rows)
     }
 
+    /// The ranges of the sectors of the rows of a copy, as `seal_copy` and `adopt` take them. The rows fit
+    /// the volume (a condition). The one error is out of memory.
+    pub fn copied_ranges(
+        &self,
+        alloc: Global,
+        rows: &[CopyRow],
+    ) -> Result<Vec<SectorRange>, AllocError>
+        requires { FitCopy self.now.sectors rows.now }
+        ensures { IfOk result (λ ranges. CoverCopyRows ranges.items rows.now) }
+    {
+        // All rows end by the volume's end, so they are narrow enough for a range.
+        let _sectors = self.sectors;
+        copied_ranges(alloc, rows)
+    }
+
+    /// The ranges of the sectors that such rows put, as `adopt` takes them. The rows fit the volume (a
+    /// condition). The one error is out of memory.
+    pub fn ranges_of(
+        &self,
+        alloc: Global,
+        rows: &SealedRows,
+    ) -> Result<Vec<SectorRange>, AllocError>
+        requires { FitSealed self.now.sectors rows.now }
+        ensures { IfOk result (λ ranges. CoverSealed ranges.items rows.now) }
+    {
+        match rows {
+            SealedRows::Data(rows) => self.put_ranges(alloc, rows),
+            SealedRows::Copy(rows) => self.copied_ranges(alloc, rows),
+            SealedRows::Checkpoint => Ok(Vec::new(alloc)),
+        }
+    }
+
     /// Seals a data object, which is given twice, with its rows and the count of entries up to its end, and
     /// answers its number: the next one. Fewer than 16 objects are open, the numbers go on below 2^64 - 1,
     /// and the rows are 65,536 at most, and lie inside the volume, and their places inside the greatest
@@ -139,6 +178,37 @@ impl<R: Receipt> Uploads<R> {
         let number = self.window.last() + 1;
         self.queue
             .push(object, spare, SealedRows::Data(rows), ranges, end)?;
+        let _ = self.window.enter(number, false);
+        Ok(number)
+    }
+
+    /// Seals a copy, which is given twice, with its rows, and answers its number: the next one. It has the
+    /// end of the object before it. Fewer than 16 objects are open, the numbers go on below 2^64 - 1, and the
+    /// rows are 65,536 at most, and lie inside the volume, and their places inside the greatest payload,
+    /// which has as many sectors as they have, or more (conditions). The one error is out of memory, as of
+    /// `seal`.
+    pub fn seal_copy(
+        &mut self,
+        object: ObjectBytes,
+        spare: ObjectBytes,
+        rows: Vec<CopyRow>,
+        ranges: Vec<SectorRange>,
+    ) -> Result<u64, AllocError>
+        requires covered { CoverCopyRows ranges.items rows.items }
+        requires places { length self.old.window.objects < 16 }
+        requires numbers { self.old.window.last + 1 < 2 ^ 64 - 1 }
+        requires spare { spare ≡ object }
+        requires fit { FitCopy self.old.sectors rows.items }
+        ensures number { IfOk result (λ number. number ≡ self.old.window.last + 1) }
+        ensures sealed { OnOk result (IsSealedNext object (Copy rows)
+            (end_of_last self.old.queue.end self.old.queue.sealed) self.old self.new) }
+        ensures succeeds { HasRoomForObject (Copy rows) self.old.queue → IsOk result }
+        ensures same { OnErr result (IsNotSealed self.old self.new) }
+    {
+        let number = self.window.last() + 1;
+        let end = self.queue.end_of_last();
+        self.queue
+            .push(object, spare, SealedRows::Copy(rows), ranges, end)?;
         let _ = self.window.enter(number, false);
         Ok(number)
     }
@@ -172,8 +242,9 @@ impl<R: Receipt> Uploads<R> {
     }
 
     /// Begins the removal of the lowest object that may be removed: the newest acknowledged checkpoint has a
-    /// greater number, and does not map it, and no pin is on it. What the store gave for it is handed out.
-    /// None is where there is no such object, and where a removal is out. It takes no memory.
+    /// greater number, and does not map it, no pin is on it, and no plan of a copy takes sectors from it.
+    /// What the store gave for it is handed out. None is where there is no such object, and where a removal
+    /// is out. It takes no memory.
     pub fn take_remove(&mut self) -> Option<R>
         ensures next { IsRemovedNext self.old.queue.removal self.old.queue.maps.objects
             (option_map (λ receipt. (R.state receipt).name.number) result) }
@@ -249,6 +320,50 @@ impl<R: Receipt> Uploads<R> {
         self.queue.unpin(number);
     }
 
+    /// Whether there are objects that a collection may take sectors from. It takes no memory.
+    pub fn has_victims(&self) -> bool
+        ensures { IsTrue result ↔ (candidates self.now.queue.maps.objects.rows ≡ [] → ⊥) }
+    {
+        self.queue.maps().has_victims()
+    }
+
+    /// Plans the next copy: the live sectors of the victims, so many at most, victim by victim, and by their
+    /// place in the volume within one. None is where there are no victims. All places in the map are inside
+    /// objects that are in the store, and a copy has 131,071 sectors at most (conditions). The one error is
+    /// out of memory.
+    pub fn plan_copy(&self, alloc: Global, most: u64) -> Result<Option<GcPlan<R>>, AllocError>
+        requires most { most ≤ 131071 }
+        requires inside { ArePlacesInside self.now.queue }
+        ensures { IfOk result (HasPlanned most self.now) }
+    {
+        let rows = self.queue.maps().plan_copy(alloc, most)?;
+        if rows.is_empty() {
+            return Ok(None);
+        }
+        let sources = sources_of(alloc, &self.queue, &rows)?;
+        Ok(Some(GcPlan::new(rows, sources)))
+    }
+
+    /// A plan is begun: the objects that it takes sectors from are not removed until it is ended. It takes no
+    /// memory.
+    pub fn begin_plan(&mut self, plan: &GcPlan<R>)
+        ensures begun { self.new ≡ with_copied_all true (numbers_of plan.now.sources) self.old }
+        ensures order { IsUploads self.old }
+        ensures order_after { IsUploads self.new }
+    {
+        self.queue.mark(plan.sources(), true);
+    }
+
+    /// A plan is ended, whether its copy was sealed or is given up: the objects that it takes sectors from
+    /// may be removed again. It takes no memory.
+    pub fn end_plan(&mut self, plan: &GcPlan<R>)
+        ensures ended { self.new ≡ with_copied_all false (numbers_of plan.now.sources) self.old }
+        ensures order { IsUploads self.old }
+        ensures order_after { IsUploads self.new }
+    {
+        self.queue.mark(plan.sources(), false);
+    }
+
     /// How many pins are on an object, none on one that is not known.
     pub fn pins(&self, number: u64) -> u64
         ensures { result ≡ pins_of (row_of number self.now.queue.maps.objects.rows) }
@@ -313,26 +428,26 @@ impl<R: Receipt> Uploads<R> {
     /// Counts the next number's object, which is in the store, as acknowledged, and settles it: these are its
     /// rows, the count of entries up to its end, and the receipt that the store gave for it. No object is
     /// past the frontier, the numbers go on below 2^64 - 1, the end is not before that of the frontier, the
-    /// receipt has the object's name, the rows are 65,536 at most, and lie inside the volume, and their
-    /// places inside the greatest payload, and the ranges have all sectors that the rows put (conditions).
+    /// receipt has the object's name, the rows are a data object's or a copy's, since a recovery begins at
+    /// the newest checkpoint, and fit the volume, and the ranges have all sectors that they put (conditions).
     /// The one error is out of memory, which comes only where room for it is missing; then nothing changes
     /// but room.
     pub fn adopt(
         &mut self,
-        rows: &[DataRow],
+        rows: SealedRows,
         ranges: Vec<SectorRange>,
         end: u64,
         receipt: R,
     ) -> Result<(), AllocError>
-        requires covered { CoverRows ranges.items rows.now }
+        requires covered { CoverSealed ranges.items rows }
         requires none { self.old.queue.sealed ≡ [] }
         requires numbers { self.old.window.last + 1 < 2 ^ 64 - 1 }
         requires order { self.old.queue.end ≤ end }
-        requires fit { FitObject self.old.sectors rows.now }
+        requires no_checkpoint { is_checkpoint rows ≡ false }
+        requires fit { FitSealed self.old.sectors rows }
         requires named { (R.state receipt).name ≡ numbered_name self.old.uuid (self.old.window.last + 1) }
-        ensures adopted { OnOk result (IsAdopted rows.now end (R.state receipt) self.old self.new) }
-        ensures succeeds { 1 ≤ self.old.queue.places → length rows.now ≤ self.old.queue.maps.settled.spare
-            → length rows.now ≤ self.old.queue.maps.log.spare → IsOk result }
+        ensures adopted { OnOk result (IsAdopted rows end (R.state receipt) self.old self.new) }
+        ensures succeeds { HasRoomForObject rows self.old.queue → IsOk result }
         ensures same { OnErr result (IsNotSealed self.old self.new) }
         ensures order { IsUploads self.old }
     {
@@ -464,6 +579,15 @@ impl<R: Receipt> Uploads<R> {
         ensures { IfSome (stored_at self.now.queue place.now) (λ object. result ≡ object.front) }
     {
         self.queue.front(place)
+    }
+
+    /// Whether receipts tell their bytes is the same of all that the store gave for the objects, as a fact
+    /// for proofs; and all do where each receipt of their kind does. Nothing is done.
+    pub fn tell_alike(&self)
+        ensures alike { TellAlike R.tells self.now.queue }
+        ensures told { ((receipt : R) → IsSome (R.state receipt).told) → TellAlike true self.now.queue }
+    {
+        self.queue.tell_alike();
     }
 
     /// The uuid of the volume.

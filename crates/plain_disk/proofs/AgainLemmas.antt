@@ -11,7 +11,6 @@ use Rattle.object_stream.specs.declared.object.StreamObject.{StreamObject}
 use Rattle.object_stream.specs.Landed.{Numbers}
 use Rattle.object_stream.specs.Stream.{last_number}
 use Rattle.upload_window.specs.declared.object.OpenObject.{OpenObject}
-use Rattle.upload_window.specs.Window.{IsAcknowledged}
 use Rattle.plain_disk.specs.Log.{mounted_log, empty_from}
 use Rattle.plain_disk.specs.Cache.{PlainCache, cache_with}
 use Rattle.plain_disk.specs.State.{PlainState, stream_in, history_length, folded_to}
@@ -19,7 +18,7 @@ use Rattle.plain_disk.specs.Checkpoints.{landed_checkpoint}
 use Rattle.plain_disk.specs.Removals.{has, absent_of}
 use Rattle.plain_disk.specs.Stops.{landed_after, recovered_number, recovered_end, kept_count, found_by}
 use Rattle.plain_disk.specs.Valid.{IsPlainVolume, MayLand}
-use Rattle.plain_disk.specs.Found.{found_in, Finds, landed_to, IsFoundAgain, FoundAgain}
+use Rattle.plain_disk.specs.Found.{Finds, landed_to, IsFoundAgain, FoundAgain}
 use Rattle.plain_disk.proofs.StopLemmas.{up_to_count, reaches, have_landed, recovers_base}
 use Rattle.plain_disk.proofs.FoundLemmas.{has_absent, found_has_present}
 

@@ -18,7 +18,7 @@ use Rattle.upload_window.specs.Window.{Ascends, has_number, below_lowest}
 use Rattle.upload_window.proofs.Order.{at_most}
 use Rattle.plain_disk.specs.State.{PlainState, PlainCheckpoint, stream_in, frontier_of, folded_to}
 use Rattle.plain_disk.specs.Checkpoints.{checkpoint_at, newest_landed, landed_checkpoint, is_started_checkpoint}
-use Rattle.plain_disk.specs.Removals.{maps, has, is_removable}
+use Rattle.plain_disk.specs.Removals.{maps, has, copies_from, is_removable}
 use Rattle.plain_disk.specs.Valid.{IsUnneeded, IsPlainCheckpoint, IsPlainVolume, NewestLandedHoldsOwners, RemovedIsUnneeded}
 use Rattle.plain_disk.proofs.EndLemmas.{frontier_is_sealed}
 use Rattle.plain_disk.proofs.FoldLemmas.{owned_at, MayFold, owners_of_fold}
@@ -321,8 +321,10 @@ removable_is_unneeded state number is =
     let pinned = has state.pins number in
     let gone = has state.removed number in
     let below = nat_lt number state.checkpoint.number in
-    let free = both_true (below && not mapped && not pinned) (not gone) is in
-    let unpinned = both_true (below && not mapped) (not pinned) free.0 in
+    let copied = copies_from state.plan number in
+    let free = both_true (below && not mapped && not pinned && not copied) (not gone) is in
+    let uncopied = both_true (below && not mapped && not pinned) (not copied) free.0 in
+    let unpinned = both_true (below && not mapped) (not pinned) uncopied.0 in
     let both = both_true below (not mapped) unpinned.0 in
     record { before = below_by number state.checkpoint.number both.0; unmapped = not_mapped mapped both.1 }
 

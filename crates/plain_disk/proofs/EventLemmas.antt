@@ -16,7 +16,8 @@ use Rattle.lsvd_base.specs.Image.{zero_sector}
 use Rattle.lsvd_base.specs.Range.{is_in_range}
 use Rattle.batcher.specs.Batch.{fullness_of_first}
 use Rattle.log_room.specs.Room.{need, free, record_sectors}
-use Rattle.object_stream.specs.declared.object.Content.TheVariants.{Data, Checkpoint}
+use Rattle.object_stream.specs.declared.object.CopiedSector.{CopiedSector}
+use Rattle.object_stream.specs.declared.object.Content.TheVariants.{Data, Copy, Checkpoint}
 use Rattle.object_stream.specs.declared.object.StreamObject.{StreamObject}
 use Rattle.object_stream.specs.Stream.{after_objects, objects_to, end_after, end_at, last_number, GoesTo, EndsFollow}
 use Rattle.object_stream.proofs.StreamLemmas.{end_in_parts, follow_first}
@@ -27,13 +28,15 @@ use Rattle.upload_window.proofs.Starts.{window_entered, window_marked, window_wi
 use Rattle.plain_disk.specs.declared.cache.PendingWrite.{PendingWrite}
 use Rattle.plain_disk.specs.declared.event.PlainEvent.TheVariants.{Write, Zero, Flush, Look, Release, Seal, TakeJob, JobDone}
 use Rattle.plain_disk.specs.declared.event.PlainEvent.TheVariants.{JobFailed, SealCheckpoint, TakeRemove}
-use Rattle.plain_disk.specs.declared.event.PlainEvent.TheVariants.{RemoveDone, RemoveFailed, Status}
+use Rattle.plain_disk.specs.declared.event.PlainEvent.TheVariants.{RemoveDone, RemoveFailed, PlanCopy, SealCopy, DropPlan}
+use Rattle.plain_disk.specs.declared.event.PlainEvent.TheVariants.{Status}
 use Rattle.plain_disk.specs.declared.event.PlainReply.{PlainReply}
 use Rattle.plain_disk.specs.Log.{room_in, with_record}
 use Rattle.plain_disk.specs.Cache.{PlainCache, after_reads, after_writes, writes_of, passes_entry, cache_after_commit}
 use Rattle.plain_disk.specs.State.{PlainState, PlainCheckpoint, created_volume, stream_in, history_length, frontier_of}
 use Rattle.plain_disk.specs.State.{frontier_end, unsealed_entries}
 use Rattle.plain_disk.specs.Checkpoints.{checkpoint_at, is_started_checkpoint}
+use Rattle.plain_disk.specs.Collection.{planned_copy, with_plan, with_copy, after_sealed_copy}
 use Rattle.plain_disk.specs.Removals.{is_removable, to_remove, with_removal, after_take_remove, is_out, after_remove_done}
 use Rattle.plain_disk.specs.Removals.{after_remove_failed}
 use Rattle.plain_disk.specs.Entries.{batch_refusal, has_room_for, commits_for_room, cache_for, commits_are_made, comes_to_log}
@@ -72,6 +75,7 @@ created_is g limits =
       limits = limits;
       sectors = length-replicate g.sectors zero_sector;
       owned = omega arith;
+      payloads = omega arith;
       in_range = All-nil (λ entry. is_in_range g entry ≡ true);
       stream = record { ends = tt; within = omega arith };
       window = record { order = omega arith; starts = All-nil (λ object. IsTrue object.is_started → IsTrue object.was_started) };
@@ -102,6 +106,7 @@ cache_keeps state cache pins h log = record {
   limits = h.limits;
   sectors = h.sectors;
   owned = h.owned;
+  payloads = h.payloads;
   in_range = h.in_range;
   stream = h.stream;
   window = h.window;
@@ -159,6 +164,7 @@ entry_keeps state cache entry h range log =
       limits = h.limits;
       sectors = h.sectors;
       owned = h.owned;
+      payloads = h.payloads;
       in_range = All-append P state.entries (entry ∷ []) h.in_range (All-cons P entry [] range (All-nil P));
       stream = record { ends = h.stream.ends; within = omega arith };
       window = h.window;
@@ -237,6 +243,7 @@ window_keeps state window checkpoint h is begun last from newest =
       limits = h.limits;
       sectors = h.sectors;
       owned = h.owned;
+      payloads = h.payloads;
       in_range = h.in_range;
       stream = h.stream;
       window = is;
@@ -592,6 +599,7 @@ sealed_keeps state object is_checkpoint h goes inside =
       limits = h.limits;
       sectors = h.sectors;
       owned = h.owned;
+      payloads = h.payloads;
       in_range = h.in_range;
       stream = record {
         ends = follow_push state.end state.objects object h.stream.ends
@@ -646,6 +654,7 @@ removals_keep state removed given_out removal h unneeded = record {
   limits = h.limits;
   sectors = h.sectors;
   owned = h.owned;
+  payloads = h.payloads;
   in_range = h.in_range;
   stream = h.stream;
   window = h.window;
@@ -687,6 +696,43 @@ remove_failed_keeps state number h =
     either_state IsPlainVolume (is_out number state.removal) (record state { removal = None }) state
     (removals_keep state state.removed state.given_out None h h.checkpoint.unneeded) h
 
+-- ---- a copy
+
+-- the plan of a copy is no part of what holds
+pub plans_keep : (state : PlainState) (plan : Option (List CopiedSector)) → IsPlainVolume state
+    → IsPlainVolume (record state { plan = plan })
+plans_keep state plan h = record {
+  limits = h.limits;
+  sectors = h.sectors;
+  owned = h.owned;
+  payloads = h.payloads;
+  in_range = h.in_range;
+  stream = h.stream;
+  window = h.window;
+  last = h.last;
+  opened = h.opened;
+  begun = h.begun;
+  checkpoint = h.checkpoint;
+  log = h.log;
+  size = h.size;
+}
+
+planning_keeps : (state : PlainState) (out : Option (List CopiedSector)) (sectors : List CopiedSector) → IsPlainVolume state
+    → IsPlainVolume (with_plan out sectors state)
+planning_keeps state (Some plan) sectors h = h
+planning_keeps state None [] h = h
+planning_keeps state None (first ∷ more) h = plans_keep state (Some (first ∷ more)) h
+
+-- a copy repeats the last end
+copy_keeps : (state : PlainState) (is_sealed : Bool) (out : Option (List CopiedSector)) → IsPlainVolume state
+    → IsPlainVolume (after_sealed_copy is_sealed out state)
+copy_keeps state is_sealed None h = h
+copy_keeps state is_sealed (Some plan) h =
+    let object : StreamObject = record { content = Copy plan; end = end_at (stream_in state) (last_number (stream_in state)) } in
+    let unplanned : PlainState = record state { plan = None } in
+    either_state IsPlainVolume is_sealed (with_copy plan state) state
+    (sealed_keeps unplanned object false (plans_keep state None h) refl (omega (arith, h.stream.within))) h
+
 -- ---- each event
 
 pub events_keep : EventsKeepPlainVolume
@@ -703,4 +749,7 @@ events_keep state SealCheckpoint h = seal_checkpoint_keeps state h
 events_keep state TakeRemove h = take_remove_keeps state h
 events_keep state (RemoveDone number) h = remove_done_keeps state number h
 events_keep state (RemoveFailed number) h = remove_failed_keeps state number h
+events_keep state PlanCopy h = planning_keeps state state.plan (planned_copy state) h
+events_keep state (SealCopy is_planned) h = copy_keeps state (is_planned && not (is_busy state)) state.plan h
+events_keep state DropPlan h = plans_keep state None h
 events_keep state Status h = h

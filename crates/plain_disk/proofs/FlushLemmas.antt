@@ -7,6 +7,7 @@ use Rattle.lsvd_base.specs.declared.entry.Entry.{Entry}
 use Rattle.lsvd_base.specs.declared.entry.Entry.TheVariants as entries
 use Rattle.lsvd_base.specs.Limits.{may_transfer}
 use Rattle.lsvd_device.specs.Calls.{Fuse, passes, fuse_after}
+use Rattle.object_stream.specs.declared.object.CopiedSector.{CopiedSector}
 use Rattle.object_stream.specs.declared.object.Content.TheVariants.{Data, Checkpoint}
 use Rattle.object_stream.specs.Stream.{end_at, last_number}
 use Rattle.upload_window.specs.Window.{entered}
@@ -16,7 +17,8 @@ use Rattle.plain_disk.specs.declared.cache.PendingWrite.TheVariants.{Body, Close
 use Rattle.plain_disk.specs.declared.event.PlainEvent.{PlainEvent}
 use Rattle.plain_disk.specs.declared.event.PlainEvent.TheVariants.{Write, Zero, Flush, Look, Release, Seal, TakeJob, JobDone}
 use Rattle.plain_disk.specs.declared.event.PlainEvent.TheVariants.{JobFailed, SealCheckpoint, TakeRemove}
-use Rattle.plain_disk.specs.declared.event.PlainEvent.TheVariants.{RemoveDone, RemoveFailed, Status}
+use Rattle.plain_disk.specs.declared.event.PlainEvent.TheVariants.{RemoveDone, RemoveFailed, PlanCopy, SealCopy, DropPlan}
+use Rattle.plain_disk.specs.declared.event.PlainEvent.TheVariants.{Status}
 use Rattle.plain_disk.specs.declared.event.PlainReply.TheVariants as replies
 use Rattle.plain_disk.specs.Log.{PlainLog, with_record, commit_from, with_commit}
 use Rattle.plain_disk.specs.Cache.{PlainCache, after_reads, after_writes, writes_of, passes_entry, after_sync_of}
@@ -27,6 +29,7 @@ use Rattle.plain_disk.specs.Removals.{to_remove, with_removal, is_out}
 use Rattle.plain_disk.specs.Entries.{batch_refusal, commits_for_room, cache_for, comes_to_log, cache_after}
 use Rattle.plain_disk.specs.Reads.{look_calls, passes_look, objects_read, are_pinned, without_pins}
 use Rattle.plain_disk.specs.Objects.{is_busy, has_unsealed, end_of_next}
+use Rattle.plain_disk.specs.Collection.{planned_copy, with_plan, with_copy, after_sealed_copy}
 use Rattle.plain_disk.specs.Step.{plain_after}
 use Rattle.plain_disk.specs.Valid.{IsLaterCommit, IsPlainVolume, FlushCommitsEntries, EventsKeepCommitted}
 use Rattle.plain_disk.proofs.EndLemmas.{frontier_ends}
@@ -205,6 +208,18 @@ removing_goes_on state None None = stays state
 removing_goes_on state None (Some number) = stays state
 removing_goes_on state (Some other) lowest = stays state
 
+planning_goes_on : (state : PlainState) (out : Option (List CopiedSector)) (sectors : List CopiedSector)
+    → GoesOn state (with_plan out sectors state)
+planning_goes_on state (Some plan) sectors = stays state
+planning_goes_on state None [] = stays state
+planning_goes_on state None (first ∷ more) = stays state
+
+copy_goes_on : (state : PlainState) (is_sealed : Bool) (out : Option (List CopiedSector))
+    → GoesOn state (after_sealed_copy is_sealed out state)
+copy_goes_on state is_sealed None = stays state
+copy_goes_on state is_sealed (Some plan) =
+    either_goes_on state is_sealed (with_copy plan state) state (stays state) (stays state)
+
 goes_on : (state : PlainState) (event : PlainEvent) → IsPlainVolume state → GoesOn state (plain_after event state)
 goes_on state (Write lba body) h =
     let entry : Entry = entries.Write lba body in
@@ -247,6 +262,9 @@ goes_on state (RemoveDone number) h =
     (record state { removed = state.removed ++ number ∷ []; removal = None }) state (stays state) (stays state)
 goes_on state (RemoveFailed number) h =
     either_goes_on state (is_out number state.removal) (record state { removal = None }) state (stays state) (stays state)
+goes_on state PlanCopy h = planning_goes_on state state.plan (planned_copy state)
+goes_on state (SealCopy is_planned) h = copy_goes_on state (is_planned && not (is_busy state)) state.plan
+goes_on state DropPlan h = stays state
 goes_on state Status h = stays state
 
 pub events_keep_committed : EventsKeepCommitted

@@ -9,7 +9,8 @@ use Rattle.lsvd_base.specs.declared.entry.Entry.TheVariants as entries
 use Rattle.lsvd_base.specs.Image.{Image, after}
 use Rattle.lsvd_base.specs.Limits.{may_transfer}
 use Rattle.lsvd_device.specs.Calls.{passes}
-use Rattle.object_stream.specs.declared.object.Content.TheVariants.{Data, Checkpoint}
+use Rattle.object_stream.specs.declared.object.CopiedSector.{CopiedSector}
+use Rattle.object_stream.specs.declared.object.Content.TheVariants.{Data, Copy, Checkpoint}
 use Rattle.object_stream.specs.declared.object.StreamObject.{StreamObject}
 use Rattle.object_stream.specs.declared.owner.Owner.{Owner}
 use Rattle.object_stream.specs.Stream.{Owners, after_objects, end_after, end_at, last_number}
@@ -18,22 +19,25 @@ use Rattle.upload_window.specs.Window.{WindowState, entered}
 use Rattle.plain_disk.specs.declared.event.PlainEvent.{PlainEvent}
 use Rattle.plain_disk.specs.declared.event.PlainEvent.TheVariants.{Write, Zero, Flush, Look, Release, Seal, TakeJob, JobDone}
 use Rattle.plain_disk.specs.declared.event.PlainEvent.TheVariants.{JobFailed, SealCheckpoint, TakeRemove}
-use Rattle.plain_disk.specs.declared.event.PlainEvent.TheVariants.{RemoveDone, RemoveFailed, Status}
+use Rattle.plain_disk.specs.declared.event.PlainEvent.TheVariants.{RemoveDone, RemoveFailed, PlanCopy, SealCopy, DropPlan}
+use Rattle.plain_disk.specs.declared.event.PlainEvent.TheVariants.{Status}
 use Rattle.plain_disk.specs.Writers.{read_calls}
 use Rattle.plain_disk.specs.Cache.{PlainCache, after_reads, passes_entry, cache_after_entry, cache_after_commit}
-use Rattle.plain_disk.specs.State.{PlainState, PlainCheckpoint, stream_in, frontier_end, unsealed_entries, folded_to}
+use Rattle.plain_disk.specs.State.{PlainState, PlainCheckpoint, stream_in, frontier_end, unsealed_entries, payloads_after}
+use Rattle.plain_disk.specs.State.{folded_to}
 use Rattle.plain_disk.specs.Checkpoints.{checkpoint_at, is_started_checkpoint}
 use Rattle.plain_disk.specs.Removals.{to_remove, with_removal, is_out}
 use Rattle.plain_disk.specs.Entries.{has_room_for, cache_for, comes_to_log, cache_after, after_entering}
 use Rattle.plain_disk.specs.Reads.{objects_read, look_calls, passes_look, after_look, are_pinned, without_pins}
 use Rattle.plain_disk.specs.Objects.{sealed_count, is_busy, has_unsealed, end_of_next, after_seal, after_seal_checkpoint}
 use Rattle.plain_disk.specs.Objects.{after_done}
+use Rattle.plain_disk.specs.Collection.{planned_copy, with_plan, with_copy, after_sealed_copy}
 use Rattle.plain_disk.specs.Step.{plain_after}
 use Rattle.plain_disk.specs.Valid.{FoldingCommutesWithEvents, FoldingCommutesWithStops}
 use Rattle.plain_disk.proofs.FoldLemmas.{MayFold, fold_sealed, fold_from, fold_within, frontier_end_of_fold, logged_of_fold}
-use Rattle.plain_disk.proofs.FoldLemmas.{unsealed_of_fold, last_end_of_fold, owners_of_first}
+use Rattle.plain_disk.proofs.FoldLemmas.{unsealed_of_fold, last_end_of_fold, owners_of_first, payloads_of_first}
 use Rattle.plain_disk.proofs.CheckpointLemmas.{at_of_fold, started_is_lowest}
-use Rattle.plain_disk.proofs.FoldReplyLemmas.{by_three, refusal_by, cache_by, made_by, objects_of_fold}
+use Rattle.plain_disk.proofs.FoldReplyLemmas.{by_four, refusal_by, cache_by, made_by, objects_of_fold, planned_of_fold}
 
 -- the volume that opens after some first objects, where these are its entries, and these the objects after those
 abbrev pub opened_by : PlainState → (number : ℕ) → List Entry → (first rest : List StreamObject) → PlainState
@@ -43,6 +47,7 @@ opened_by state number entries first rest = record state {
   end = end_after state.end first;
   owned = map (after_objects state.number state.end entries (stream_in state).opening first)
       (range_with_len 0 state.geometry.sectors);
+  payloads = state.payloads ++ payloads_after state.geometry.sectors state.end entries first;
   entries = drop (end_after state.end first - state.end) entries;
   objects = rest;
 }
@@ -64,13 +69,16 @@ opened_with_more state number more h =
     let owned = ap (λ (f : Owners). map f (range_with_len 0 state.geometry.sectors))
     (sym (owners_of_first state.number state.end state.entries more (stream_in state).opening first
     (follow_first state.end (number - state.number) state.objects h.valid.stream.ends) within)) in
+    let payloads = ap (λ list. state.payloads ++ list) (sym (payloads_of_first state.geometry.sectors state.end state.entries more
+    first (follow_first state.end (number - state.number) state.objects h.valid.stream.ends) within)) in
     let rest = sym (drop-append-le (ends - state.end) state.entries more inside) in
-    by_three (λ (o : Image) (w : List (Option Owner)) (e : List Entry). record (folded_to number state) {
+    by_four (λ (o : Image) (w : List (Option Owner)) (p : List ℕ) (e : List Entry). record (folded_to number state) {
       opening = o;
       owned = w;
+      payloads = p;
       entries = e;
     })
-    _ _ _ _ _ _ opening owned rest
+    _ _ _ _ _ _ _ _ opening owned payloads rest
 
 -- one entry more or none
 fold_with : (state : PlainState) (number : ℕ) (entry : Entry) (cache : PlainCache) (is_taken : Bool) → MayFold state number
@@ -227,6 +235,33 @@ removing_of_fold state number None None = refl
 removing_of_fold state number None (Some removed) = refl
 removing_of_fold state number (Some other) lowest = refl
 
+-- ---- a copy
+
+planning_of_fold : (state : PlainState) (number : ℕ) (out : Option (List CopiedSector)) (sectors : List CopiedSector)
+    → with_plan out sectors (folded_to number state) ≡ folded_to number (with_plan out sectors state)
+planning_of_fold state number (Some plan) sectors = refl
+planning_of_fold state number None [] = refl
+planning_of_fold state number None (first ∷ more) = refl
+
+-- a copy repeats the last end
+copy_of_fold : (state : PlainState) (number : ℕ) (is_sealed : Bool) (out : Option (List CopiedSector)) → MayFold state number
+    → after_sealed_copy is_sealed out (folded_to number state) ≡ folded_to number (after_sealed_copy is_sealed out state)
+copy_of_fold state number is_sealed None h = refl
+copy_of_fold state number is_sealed (Some plan) h =
+    let folded : PlainState = folded_to number state in
+    let window : WindowState = entered (state.window.last + 1) false state.window in
+    let copied = λ (end : ℕ). record folded {
+      plan = None;
+      objects = folded.objects ++ record { content = Copy plan; end = end } ∷ [];
+      window = window;
+    } in
+    let end = end_at (stream_in state) (last_number (stream_in state)) in
+    let object : StreamObject = record { content = Copy plan; end = end } in
+    ap (λ (e : ℕ). cond is_sealed (copied e) folded) (last_end_of_fold state number h)
+    ∙ ap (λ (s : PlainState). cond is_sealed (record s { plan = None }) folded)
+    (fold_with_object state number object window true h)
+    ∙ fold_choice number is_sealed (with_copy plan state) state
+
 -- ---- each event
 
 event_of_fold : (state : PlainState) (number : ℕ) (event : PlainEvent) → MayFold state number
@@ -250,6 +285,12 @@ event_of_fold state number (RemoveDone removed) h =
     (record state { removed = state.removed ++ removed ∷ []; removal = None }) state
 event_of_fold state number (RemoveFailed removed) h =
     fold_choice number (is_out removed state.removal) (record state { removal = None }) state
+event_of_fold state number PlanCopy h =
+    ap (λ (sectors : List CopiedSector). with_plan state.plan sectors (folded_to number state)) (planned_of_fold state number h)
+    ∙ planning_of_fold state number state.plan (planned_copy state)
+event_of_fold state number (SealCopy is_planned) h =
+    copy_of_fold state number (is_planned && not (is_busy state)) state.plan h
+event_of_fold state number DropPlan h = refl
 event_of_fold state number Status h = refl
 
 pub folding_commutes_with_events : FoldingCommutesWithEvents

@@ -1,10 +1,11 @@
 -- A plain volume that opens after a later object has the same objects, entries and owners.
-use Rattle.std.proofs.Common.{arith, ℕ, ◌+◌, ◌-◌, ◌/◌, ◌≤◌, ◌≡◌, true, false, cond, ◌&&◌, nat_lt, nat_le, Option, Some, None}
-use Rattle.std.proofs.Common.{List, [], ◌∷◌, ◌++◌, map, get_or, length, take, drop, length-drop, refl, sym, ◌∙◌, ap, inl, inr}
+use Rattle.std.proofs.Common.{arith, ℕ, suc, ◌+◌, ◌-◌, ◌/◌, ◌≤◌, ◌≡◌, true, false, cond, ◌&&◌, nat_lt, nat_le, Option, Some, None}
+use Rattle.std.proofs.Common.{List, [], ◌∷◌, ◌++◌, map, get_or, length, take, drop, length-drop, refl, sym, ◌∙◌, ap}
+use Rattle.std.proofs.Common.{inl, inr}
 use Rattle.std.proofs.lemmas.Bool.{cases_lt}
 use Rattle.std.proofs.lemmas.Bool.Decides.{nat_tests}
 use Rattle.std.proofs.lemmas.List.{take-append-le, drop-append-le, take-append-drop, drop-drop, get_or_past, length-take}
-use Rattle.std.proofs.lemmas.List.{take-take}
+use Rattle.std.proofs.lemmas.List.{take-take, append_assoc}
 use Rattle.std.proofs.lemmas.List.Elements.{All-take, All-drop, All-head, All-tail}
 use Rattle.std.proofs.lemmas.List.FromFn.{get_or-map-range_with_len, length-map-range_with_len}
 use Rattle.std.specs.List.{All, range_with_len}
@@ -28,7 +29,7 @@ use Rattle.object_stream.specs.Stream.{owners, end_after, end_at, last_number, E
 use Rattle.object_stream.specs.Laws.{from_object}
 use Rattle.object_stream.proofs.StreamLemmas.{goes_on, end_no_earlier, follow_first, keeps_owners}
 use Rattle.plain_disk.specs.State.{PlainState, stream_in, history_length, image_now, frontier_of, frontier_end, logged_entries}
-use Rattle.plain_disk.specs.State.{unsealed_entries, owned_after, folded_to}
+use Rattle.plain_disk.specs.State.{unsealed_entries, owned_after, payload_by, payloads_after, payloads_in, folded_to}
 use Rattle.plain_disk.specs.Stops.{cut_to_count}
 use Rattle.plain_disk.specs.Valid.{IsPlainVolume}
 use Rattle.plain_disk.proofs.EndLemmas.{ends_grow, frontier_is_sealed, ends_from, ends_within}
@@ -183,6 +184,69 @@ module _ (state : PlainState) (number : ℕ) (h : MayFold state number) where
       let n = end_at (stream_in state) number - state.end in
       sym (applies_in_parts state.opening (take n state.entries) (drop n state.entries))
       ∙ ap (after state.opening) (take-append-drop n state.entries)
+
+-- ---- payloads
+
+-- those of some objects, and then of those after them
+pub payloads_in_parts : (sectors end : ℕ) (entries : List Entry) (first rest : List StreamObject) → EndsFollow end first
+    → payloads_after sectors end entries (first ++ rest)
+    ≡ payloads_after sectors end entries first
+    ++ payloads_after sectors (end_after end first) (drop (end_after end first - end) entries) rest
+payloads_in_parts sectors end entries [] rest h =
+    let none : end - end ≡ 0 = omega arith in
+    ap (λ n. payloads_after sectors end (drop n entries) rest) (sym none)
+payloads_in_parts sectors end entries (object ∷ first) rest h =
+    let n = object.end - end in
+    let last = end_after object.end first in
+    let grown : object.end ≤ last = end_no_earlier object.end first h.1 in
+    let order = goes_on object.content end object.end h.0 in
+    let sum : n + (last - object.end) ≡ last - end = omega arith in
+    let left : drop (last - object.end) (drop n entries) ≡ drop (last - end) entries =
+    drop-drop (last - object.end) n entries ∙ ap (λ k. drop k entries) sum in
+    let own = payload_by sectors (take n entries) object.content in
+    let now = payloads_after sectors object.end (drop n entries) first in
+    ap (λ list. own ∷ list) (payloads_in_parts sectors object.end (drop n entries) first rest h.1
+    ∙ ap (λ es. now ++ payloads_after sectors last es rest) left)
+
+-- there are as many as objects
+pub length-payloads : (sectors end : ℕ) (entries : List Entry) (objects : List StreamObject)
+    → length (payloads_after sectors end entries objects) ≡ length objects
+length-payloads sectors end entries [] = refl
+length-payloads sectors end entries (object ∷ objects) =
+    ap suc (length-payloads sectors object.end (drop (object.end - end) entries) objects)
+
+-- they do not depend on entries past the objects' end
+pub payloads_of_first : (sectors end : ℕ) (entries more : List Entry) (objects : List StreamObject) → EndsFollow end objects
+    → end_after end objects ≤ end + length entries
+    → payloads_after sectors end (entries ++ more) objects ≡ payloads_after sectors end entries objects
+payloads_of_first sectors end entries more [] h within = refl
+payloads_of_first sectors end entries more (object ∷ objects) h within =
+    let n = object.end - end in
+    let grown : object.end ≤ end_after object.end objects = end_no_earlier object.end objects h.1 in
+    let order = goes_on object.content end object.end h.0 in
+    let inside : n ≤ length entries = omega arith in
+    let long = length-drop n entries in
+    let rest : end_after object.end objects ≤ object.end + length (drop n entries) = omega arith in
+    ap (λ es. payload_by sectors es object.content ∷ payloads_after sectors object.end (drop n (entries ++ more)) objects)
+    (take-append-le n entries more inside)
+    ∙ ap (λ list. payload_by sectors (take n entries) object.content ∷ list)
+    (ap (λ es. payloads_after sectors object.end es objects) (drop-append-le n entries more inside)
+    ∙ payloads_of_first sectors object.end (drop n entries) more objects h.1 rest)
+
+pub payloads_of_fold : (state : PlainState) (number : ℕ) → MayFold state number
+    → payloads_in (folded_to number state) ≡ payloads_in state
+payloads_of_fold state number h =
+    let sectors = state.geometry.sectors in
+    let n = number - state.number in
+    let first = take n state.objects in
+    let rest = drop n state.objects in
+    let now = payloads_after sectors state.end state.entries first in
+    let later = payloads_after sectors (end_after state.end first)
+    (drop (end_after state.end first - state.end) state.entries) rest in
+    append_assoc state.payloads now later
+    ∙ ap (λ list. state.payloads ++ list) (sym (payloads_in_parts sectors state.end state.entries first rest
+    (follow_first state.end n state.objects h.valid.stream.ends))
+    ∙ ap (payloads_after sectors state.end state.entries) (take-append-drop n state.objects))
 
 -- ---- owners do not depend on entries past the objects' end
 

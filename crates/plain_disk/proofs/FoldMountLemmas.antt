@@ -1,5 +1,5 @@
 -- Entries of a plain volume may be folded before a mount or after it.
-use Rattle.std.proofs.Common.{arith, ℕ, ◌+◌, ◌-◌, ◌≤◌, ◌≡◌, max, Bool, Option, List, map, length, take, drop, sym, ◌∙◌, ap}
+use Rattle.std.proofs.Common.{arith, ℕ, ◌+◌, ◌-◌, ◌≤◌, ◌≡◌, max, Bool, Option, List, ◌++◌, map, length, take, drop, sym, ◌∙◌, ap}
 use Rattle.std.proofs.lemmas.List.{length-take, take-take, drop-take, take-append-drop}
 use Rattle.std.specs.List.{range_with_len}
 use Rattle.lsvd_base.specs.declared.entry.Entry.{Entry}
@@ -12,7 +12,7 @@ use Rattle.object_stream.proofs.StreamLemmas.{follow_first}
 use Rattle.plain_disk.specs.declared.log.PlainCommit.{PlainCommit}
 use Rattle.plain_disk.specs.Log.{mounted_log, empty_from}
 use Rattle.plain_disk.specs.Cache.{PlainCache, cache_with, kept_commit}
-use Rattle.plain_disk.specs.State.{PlainState, PlainCheckpoint, stream_in, folded_to}
+use Rattle.plain_disk.specs.State.{PlainState, PlainCheckpoint, stream_in, payloads_after, folded_to}
 use Rattle.plain_disk.specs.Checkpoints.{landed_checkpoint}
 use Rattle.plain_disk.specs.Removals.{absent_of}
 use Rattle.plain_disk.specs.Stops.{landed_after, recovered_number, recovered_end, kept_count, cut_to_count, mounted_kept}
@@ -21,8 +21,9 @@ use Rattle.plain_disk.specs.Valid.{MayLand, FoldingCommutesWithMounts}
 use Rattle.plain_disk.proofs.EndLemmas.{ends_grow}
 use Rattle.plain_disk.proofs.StopLemmas.{recovers_frontier}
 use Rattle.plain_disk.proofs.FoldLemmas.{MayFold, fold_from, fold_within, ends_of_fold, last_of_fold, owners_of_first}
+use Rattle.plain_disk.proofs.FoldLemmas.{payloads_of_first}
 use Rattle.plain_disk.proofs.CheckpointLemmas.{landed_of_fold}
-use Rattle.plain_disk.proofs.FoldReplyLemmas.{by_three}
+use Rattle.plain_disk.proofs.FoldReplyLemmas.{by_three, by_four}
 use Rattle.plain_disk.proofs.FoldEventLemmas.{opened_by}
 
 -- of some first elements, those after even fewer first ones
@@ -76,6 +77,10 @@ cut_of_fold state number last count checkpoint gone cache h above ends_first =
     ∙ owners_of_first state.number state.end (take q all) (drop q all) (stream_in state).opening first
     (follow_first state.end n state.objects h.valid.stream.ends) inside in
     let owned = ap (λ (f : Owners). map f (range_with_len 0 state.geometry.sectors)) same_owners in
+    let of = payloads_after state.geometry.sectors state.end in
+    let follows = follow_first state.end n state.objects h.valid.stream.ends in
+    let payloads = ap (λ list. state.payloads ++ list) (ap (λ (es : List Entry). of es first) (sym (take-append-drop q all))
+    ∙ payloads_of_first state.geometry.sectors state.end (take q all) (drop q all) first follows inside) in
     let cut : PlainState = record (cut_to_count last count state) {
       checkpoint = checkpoint;
       removed = gone;
@@ -83,16 +88,17 @@ cut_of_fold state number last count checkpoint gone cache h above ends_first =
       cache = cache;
     } in
     let folded : PlainState = cut_to_count last count (folded_to number state) in
-    by_three (λ (o : Image) (w : List (Option Owner)) (e : List Entry). record folded {
+    by_four (λ (o : Image) (w : List (Option Owner)) (p : List ℕ) (e : List Entry). record folded {
       opening = o;
       owned = w;
+      payloads = p;
       entries = e;
       checkpoint = checkpoint;
       removed = gone;
       given_out = gone;
       cache = cache;
     })
-    _ _ _ _ _ _ opening owned entries
+    _ _ _ _ _ _ _ _ opening owned payloads entries
     ∙ ap (λ (r : List StreamObject). opened_by cut number (take q all) first r) objects
     ∙ ap (λ (f : List StreamObject). opened_by cut number (take q all) f (drop n (take m state.objects)))
     (sym (take-take n m state.objects fewer))

@@ -1,8 +1,8 @@
 -- A plain volume that opens after a later object answers as before.
 use Rattle.std.proofs.Common.{ℕ, ◌+◌, ◌≡◌, Bool, true, cond, not, ◌&&◌, ◌||◌, nat_lt, eqb, Option, Some, unwrap_or, option_map}
-use Rattle.std.proofs.Common.{List}
+use Rattle.std.proofs.Common.{◌*◌, List, ◌∷◌, map, take, get_or}
 use Rattle.std.proofs.Common.{length, refl, ◌∙◌, ap}
-use Rattle.std.specs.List.{sum_by, filter, list_any, range_with_len}
+use Rattle.std.specs.List.{sum_by, filter, list_any, range_with_len, flat_map}
 use Rattle.lsvd_base.specs.declared.geometry.Geometry.{Geometry}
 use Rattle.lsvd_base.specs.declared.entry.Entry.{Entry}
 use Rattle.lsvd_base.specs.declared.entry.Entry.TheVariants as entries
@@ -12,11 +12,13 @@ use Rattle.lsvd_base.specs.Range.{is_in_range}
 use Rattle.lsvd_device.specs.Calls.{passes}
 use Rattle.batcher.specs.Batch.{data_sectors, fullness}
 use Rattle.log_room.specs.Room.{need, free, record_sectors}
+use Rattle.object_stream.specs.declared.object.CopiedSector.{CopiedSector}
 use Rattle.object_stream.specs.Stream.{Owners, owners, is_own}
 use Rattle.plain_disk.specs.declared.event.PlainEvent.{PlainEvent}
 use Rattle.plain_disk.specs.declared.event.PlainEvent.TheVariants.{Write, Zero, Flush, Look, Release, Seal, TakeJob, JobDone}
 use Rattle.plain_disk.specs.declared.event.PlainEvent.TheVariants.{JobFailed, SealCheckpoint, TakeRemove}
-use Rattle.plain_disk.specs.declared.event.PlainEvent.TheVariants.{RemoveDone, RemoveFailed, Status}
+use Rattle.plain_disk.specs.declared.event.PlainEvent.TheVariants.{RemoveDone, RemoveFailed, PlanCopy, SealCopy, DropPlan}
+use Rattle.plain_disk.specs.declared.event.PlainEvent.TheVariants.{Status}
 use Rattle.plain_disk.specs.declared.event.PlainReply.{PlainReply}
 use Rattle.plain_disk.specs.declared.event.PlainReply.TheVariants as replies
 use Rattle.plain_disk.specs.declared.event.PlannedRead.{PlannedRead}
@@ -27,19 +29,27 @@ use Rattle.plain_disk.specs.Cache.{PlainCache, passes_entry, cache_after_commit,
 use Rattle.plain_disk.specs.Checkpoints.{sealed_checkpoint}
 use Rattle.plain_disk.specs.State.{PlainState, PlainCheckpoint, stream_in, history_length, image_now, frontier_of, frontier_end}
 use Rattle.plain_disk.specs.State.{logged_entries}
-use Rattle.plain_disk.specs.State.{unsealed_entries, folded_to}
+use Rattle.plain_disk.specs.State.{unsealed_entries, payloads_in, folded_to}
 use Rattle.plain_disk.specs.Objects.{is_busy}
 use Rattle.plain_disk.specs.Entries.{reply_of_full, has_room_for, enter_reply}
 use Rattle.plain_disk.specs.Reads.{objects_read, look_reply}
+use Rattle.object_stream.specs.Planned.{copied_from}
+use Rattle.plain_disk.specs.Collection.{in_order, planned_copy, reply_of_plan}
 use Rattle.plain_disk.specs.Step.{plain_reply}
 use Rattle.plain_disk.specs.Valid.{FoldingChangesNoReply}
 use Rattle.plain_disk.proofs.FoldLemmas.{MayFold, owners_of_fold, frontier_end_of_fold, count_of_fold, logged_of_fold}
-use Rattle.plain_disk.proofs.FoldLemmas.{unsealed_of_fold, image_of_fold}
+use Rattle.plain_disk.proofs.FoldLemmas.{unsealed_of_fold, image_of_fold, payloads_of_fold}
 use Rattle.plain_disk.proofs.CheckpointLemmas.{landed_of_fold}
 
 -- a value by three others that are the same
 pub by_three : {A B C D : Type 0} (f : A → B → C → D) (a x : A) (b y : B) (c z : C) → a ≡ x → b ≡ y → c ≡ z → f a b c ≡ f x y z
 by_three f a x b y c z first second third = ap (λ v. f v b c) first ∙ ap (λ v. f x v c) second ∙ ap (λ v. f x y v) third
+
+-- and by four
+pub by_four : {A B C D E : Type 0} (f : A → B → C → D → E) (a x : A) (b y : B) (c z : C) (d w : D) → a ≡ x → b ≡ y → c ≡ z
+    → d ≡ w → f a b c d ≡ f x y z w
+by_four f a x b y c z d w first second third fourth =
+    by_three (λ u v t. f u v t d) a x b y c z first second third ∙ ap (λ v. f x y z v) fourth
 
 -- ---- an entry, by the cache, the unsealed entries, the frontier's end and the count
 
@@ -118,6 +128,40 @@ look_of_fold state number lba sectors h =
     (objects_read folded lba sectors) (objects_read state lba sectors)
     (count_of_fold state number h) (image_of_fold state number h) (objects_of_fold state number lba sectors h)
 
+-- ---- a plan of a copy, by the owners and the payloads
+
+abbrev live_by : (sectors : ℕ) → Owners → (number : ℕ) → List ℕ
+live_by sectors owned number = filter (λ k. is_own number (owned k)) (range_with_len 0 sectors)
+
+abbrev count_by : (sectors : ℕ) → Owners → (number : ℕ) → ℕ
+count_by sectors owned number = length (live_by sectors owned number)
+
+abbrev payload_in : List ℕ → (number : ℕ) → ℕ
+payload_in payloads number = get_or (0 ∷ payloads) number 0
+
+abbrev is_victim_by : (sectors : ℕ) → Owners → List ℕ → (number : ℕ) → Bool
+is_victim_by sectors owned payloads number =
+    nat_lt 0 (count_by sectors owned number) && nat_lt (count_by sectors owned number * 100) (70 * payload_in payloads number)
+
+abbrev before_by : (sectors : ℕ) → Owners → List ℕ → (number other : ℕ) → Bool
+before_by sectors owned payloads number other =
+    nat_lt (count_by sectors owned number * payload_in payloads other) (count_by sectors owned other * payload_in payloads number)
+    || (eqb (count_by sectors owned number * payload_in payloads other)
+    (count_by sectors owned other * payload_in payloads number) && nat_lt number other)
+
+abbrev copy_by : (batch sectors frontier : ℕ) → Owners → List ℕ → List CopiedSector
+copy_by batch sectors frontier owned payloads =
+    take batch (flat_map (λ number. map (copied_from number) (live_by sectors owned number))
+    (in_order (before_by sectors owned payloads) (filter (is_victim_by sectors owned payloads) (range_with_len 1 frontier))))
+
+pub planned_of_fold : (state : PlainState) (number : ℕ) → MayFold state number
+    → planned_copy (folded_to number state) ≡ planned_copy state
+planned_of_fold state number h =
+    let at = copy_by state.geometry.batch state.geometry.sectors (frontier_of state) in
+    ap (λ (owned : Owners). at owned (payloads_in (folded_to number state)))
+    (owners_of_fold state number h (frontier_of state) h.to)
+    ∙ ap (λ (payloads : List ℕ). at (owners (stream_in state) (frontier_of state)) payloads) (payloads_of_fold state number h)
+
 -- ---- each event
 
 reply_of_fold : (state : PlainState) (number : ℕ) (event : PlainEvent) → MayFold state number
@@ -139,6 +183,9 @@ reply_of_fold state number SealCheckpoint h = refl
 reply_of_fold state number TakeRemove h = refl
 reply_of_fold state number (RemoveDone removed) h = refl
 reply_of_fold state number (RemoveFailed removed) h = refl
+reply_of_fold state number PlanCopy h = ap (reply_of_plan state.plan) (planned_of_fold state number h)
+reply_of_fold state number (SealCopy is_planned) h = refl
+reply_of_fold state number DropPlan h = refl
 reply_of_fold state number Status h =
     ap (λ (c : PlainCheckpoint). replies.Told (history_length (folded_to number state)) state.window.last (frontier_of state)
     c.number) (landed_of_fold state number (λ n. true) h)

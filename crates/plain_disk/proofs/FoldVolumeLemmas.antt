@@ -1,7 +1,7 @@
 -- A plain volume whose entries were folded is one, and folding in parts is folding at once.
-use Rattle.std.proofs.Common.{arith, ℕ, zero, suc, ◌+◌, ◌-◌, ◌≤◌, ◌≡◌, true, Option, List, [], ◌∷◌, map, length, take, drop, sym}
-use Rattle.std.proofs.Common.{◌∙◌, ap, subst₂}
-use Rattle.std.proofs.lemmas.List.{drop-drop}
+use Rattle.std.proofs.Common.{arith, ℕ, zero, suc, ◌+◌, ◌-◌, ◌≤◌, ◌≡◌, true, Option, List, [], ◌∷◌, ◌++◌, map, length, take, drop}
+use Rattle.std.proofs.Common.{sym, ◌∙◌, ap, subst₂}
+use Rattle.std.proofs.lemmas.List.{drop-drop, append_assoc, length-append, length-take}
 use Rattle.std.proofs.lemmas.List.Elements.{All-take, All-drop, All-head, All-tail}
 use Rattle.std.proofs.lemmas.List.FromFn.{length-map-range_with_len}
 use Rattle.std.proofs.Math.Seq.{take-add}
@@ -16,14 +16,16 @@ use Rattle.lsvd_base.proofs.ImageLemmas.{Write-ends, Zero-ends}
 use Rattle.lsvd_base.proofs.SectorLemmas.{keeps_count, applies_in_parts}
 use Rattle.object_stream.specs.declared.object.StreamObject.{StreamObject}
 use Rattle.object_stream.specs.declared.owner.Owner.{Owner}
-use Rattle.object_stream.specs.Stream.{Owners, owners, is_own, end_after, end_at, EndsFollow}
-use Rattle.plain_disk.specs.State.{PlainState, stream_in, frontier_of, folded_to}
+use Rattle.object_stream.specs.Stream.{Owners, owners, is_own, objects_to, end_after, end_at, EndsFollow}
+use Rattle.object_stream.proofs.StreamLemmas.{follow_first}
+use Rattle.plain_disk.specs.State.{PlainState, stream_in, frontier_of, payloads_after, folded_to}
 use Rattle.plain_disk.specs.Valid.{IsPlainCheckpoint, IsPlainLog, IsPlainVolume, FoldingKeepsPlainVolume, FoldsInParts}
 use Rattle.plain_disk.proofs.EndLemmas.{ends_grow, frontier_is_sealed}
 use Rattle.plain_disk.proofs.FoldLemmas.{MayFold, owners_of_fold, ends_of_fold, last_of_fold, frontier_end_of_fold, count_of_fold}
-use Rattle.plain_disk.proofs.FoldLemmas.{entries_of_fold, last_end_of_fold, fold_from, owned_at}
+use Rattle.plain_disk.proofs.FoldLemmas.{entries_of_fold, last_end_of_fold, fold_from, owned_at, payloads_in_parts}
+use Rattle.plain_disk.proofs.FoldLemmas.{length-payloads}
 use Rattle.plain_disk.proofs.CheckpointLemmas.{maps_what_owns}
-use Rattle.plain_disk.proofs.FoldReplyLemmas.{by_three}
+use Rattle.plain_disk.proofs.FoldReplyLemmas.{by_four}
 
 -- ---- a folded volume
 
@@ -65,6 +67,24 @@ checkpoint_of_fold state number h =
       unneeded = is.unneeded;
     }
 
+-- there is a payload for each object up to that which it opens after then
+payloads_counted : (state : PlainState) (number : ℕ) → MayFold state number
+    → length (folded_to number state).payloads ≡ number
+payloads_counted state number h =
+    let first = objects_to (stream_in state) number in
+    let more = payloads_after state.geometry.sectors state.end state.entries first in
+    let sealed = frontier_is_sealed state h.valid in
+    omega (
+      arith,
+      length-append state.payloads more,
+      length-payloads state.geometry.sectors state.end state.entries first,
+      length-take (number - state.number) state.objects,
+      h.valid.payloads,
+      h.from,
+      h.to,
+      sealed,
+    )
+
 fold_is : (state : PlainState) (number : ℕ) → MayFold state number → IsPlainVolume (folded_to number state)
 fold_is state number h =
     let was = h.valid in
@@ -79,6 +99,7 @@ fold_is state number h =
       sectors = sectors_after state.geometry state.opening (take n state.entries) (All-take P n state.entries was.in_range)
           was.sectors;
       owned = omega (arith, length-map-range_with_len (owners (stream_in state) number) 0 all);
+      payloads = payloads_counted state number h;
       in_range = All-drop P n state.entries was.in_range;
       stream = record {
         ends = follow_rest state.end (number - state.number) state.objects was.stream.ends;
@@ -105,7 +126,7 @@ folds_in_parts state number later h from above to =
     let ends = end_at (stream_in state) number in
     let next = end_at (stream_in state) later in
     let order : ends ≤ next = ends_grow (stream_in state) number later h.stream.ends above in
-    let first : state.end ≤ ends = fold_from state number fold in
+    let from_end : state.end ≤ ends = fold_from state number fold in
     let d = ends - state.end in
     let sum : next - state.end ≡ d + (next - ends) = omega arith in
     let opening : after (after state.opening (take d state.entries)) (take (next - ends) (drop d state.entries))
@@ -115,8 +136,17 @@ folds_in_parts state number later h from above to =
     ∙ ap (λ k. after state.opening (take k state.entries)) (sym sum) in
     let owned = ap (λ (f : Owners). map f (range_with_len 0 state.geometry.sectors))
     (owners_of_fold state number fold later above) in
-    let entries = entries_of_fold state number fold next order in
+    let sectors = state.geometry.sectors in
+    let first = take (number - state.number) state.objects in
+    let rest = take (later - number) (drop (number - state.number) state.objects) in
     let count : number - state.number + (later - number) ≡ later - state.number = omega arith in
+    let follows = follow_first state.end (number - state.number) state.objects h.stream.ends in
+    let payloads = append_assoc state.payloads (payloads_after sectors state.end state.entries first)
+    (payloads_after sectors ends (drop d state.entries) rest)
+    ∙ ap (λ list. state.payloads ++ list) (sym (payloads_in_parts sectors state.end state.entries first rest follows)
+    ∙ ap (payloads_after sectors state.end state.entries) (sym (take-add (number - state.number) (later - number) state.objects)
+    ∙ ap (λ k. take k state.objects) count)) in
+    let entries = entries_of_fold state number fold next order in
     let objects = drop-drop (later - number) (number - state.number) state.objects ∙ ap (λ k. drop k state.objects) count in
     let at = λ (end : ℕ). record (folded_to later folded) {
       opening = after folded.opening (take (end - ends) folded.entries);
@@ -124,10 +154,11 @@ folds_in_parts state number later h from above to =
       entries = drop (end - ends) folded.entries;
     } in
     ap at (ends_of_fold state number fold later above)
-    ∙ by_three (λ (o : Image) (w : List (Option Owner)) (e : List Entry). record (at next) {
+    ∙ by_four (λ (o : Image) (w : List (Option Owner)) (p : List ℕ) (e : List Entry). record (at next) {
       opening = o;
       owned = w;
+      payloads = p;
       entries = e;
     })
-    _ _ _ _ _ _ opening owned entries
+    _ _ _ _ _ _ _ _ opening owned payloads entries
     ∙ ap (λ (r : List StreamObject). record (folded_to later state) { objects = r }) objects

@@ -9,30 +9,33 @@ use Rattle.std.proofs.lemmas.List.{length-take}
 use Rattle.std.proofs.lemmas.List.Folds.{list_any-append}
 use Rattle.std.proofs.lemmas.Option.{slice_get_within}
 use Rattle.lsvd_base.specs.Limits.{may_transfer}
-use Rattle.object_stream.specs.declared.object.Content.TheVariants.{Data, Checkpoint}
+use Rattle.object_stream.specs.declared.object.CopiedSector.{CopiedSector}
+use Rattle.object_stream.specs.declared.object.Content.TheVariants.{Data, Copy, Checkpoint}
 use Rattle.object_stream.specs.declared.object.StreamObject.{StreamObject}
 use Rattle.object_stream.specs.Landed.{Numbers}
 use Rattle.object_stream.specs.Stream.{end_at, last_number}
 use Rattle.upload_window.specs.declared.object.OpenObject.{OpenObject}
-use Rattle.upload_window.specs.Window.{WindowState, Ascends, has_number, without, entered, marked, acknowledged, is_started}
+use Rattle.upload_window.specs.Window.{Ascends, has_number, without, entered, marked, acknowledged, is_started}
 use Rattle.upload_window.specs.Window.{lowest_ready}
 use Rattle.plain_disk.specs.declared.event.PlainEvent.{PlainEvent}
 use Rattle.plain_disk.specs.declared.event.PlainEvent.TheVariants.{Write, Zero, Flush, Look, Release, Seal, TakeJob, JobDone}
 use Rattle.plain_disk.specs.declared.event.PlainEvent.TheVariants.{JobFailed, SealCheckpoint, TakeRemove}
-use Rattle.plain_disk.specs.declared.event.PlainEvent.TheVariants.{RemoveDone, RemoveFailed, Status}
+use Rattle.plain_disk.specs.declared.event.PlainEvent.TheVariants.{RemoveDone, RemoveFailed, PlanCopy, SealCopy, DropPlan}
+use Rattle.plain_disk.specs.declared.event.PlainEvent.TheVariants.{Status}
 use Rattle.plain_disk.specs.Cache.{after_reads}
-use Rattle.plain_disk.specs.State.{PlainState, stream_in, frontier_of}
+use Rattle.plain_disk.specs.State.{PlainState, stream_in}
 use Rattle.plain_disk.specs.Checkpoints.{checkpoint_at, landed_checkpoint, is_started_checkpoint}
 use Rattle.plain_disk.specs.Objects.{is_busy, has_unsealed, end_of_next, window_after_take, after_done}
 use Rattle.plain_disk.specs.Reads.{look_calls, passes_look, objects_read, are_pinned, without_pins}
-use Rattle.plain_disk.specs.Removals.{has, to_remove, with_removal, is_out, absent_of}
+use Rattle.plain_disk.specs.Removals.{has, to_remove, with_removal, is_out}
+use Rattle.plain_disk.specs.Collection.{planned_copy, with_plan, with_copy, after_sealed_copy}
 use Rattle.plain_disk.specs.Step.{plain_after}
 use Rattle.plain_disk.specs.Stops.{recovered_number}
 use Rattle.plain_disk.specs.Valid.{IsPlainVolume, is_checkpoint_from}
 use Rattle.plain_disk.specs.Found.{CreatedSealsCheckpoints, EventsSealCheckpoints, StopsSealCheckpoints}
 use Rattle.plain_disk.specs.Found.{MountsSealCheckpoints}
-use Rattle.plain_disk.proofs.CheckpointLemmas.{both_true, either_true, same_number, started_is_lowest, landed_from}
-use Rattle.plain_disk.proofs.EventLemmas.{either_state}
+use Rattle.plain_disk.proofs.CheckpointLemmas.{either_true, same_number, started_is_lowest, landed_from}
+use Rattle.plain_disk.proofs.EventLemmas.{either_state, plans_keep}
 use Rattle.plain_disk.proofs.FoundStreamLemmas.{slice_of_take}
 use Rattle.plain_disk.proofs.SealedLemmas.{or_later, checkpoint_of, any_marked, created_sealed, events_keep_sealed}
 use Rattle.plain_disk.proofs.SealedLemmas.{mount_keeps_sealed}
@@ -192,6 +195,12 @@ data_is_none : (object : StreamObject) (end : ℕ) → object.content ≡ Data �
 data_is_none object end is_data is =
     let same : Data ≡ Checkpoint = sym is_data ∙ ap (λ (o : StreamObject). o.content) is in cc
 
+-- nor is a copy
+copy_is_none : (object : StreamObject) (plan : List CopiedSector) (end : ℕ) → object.content ≡ Copy plan
+    → object ≡ record { content = Checkpoint; end = end } → ⊥
+copy_is_none object plan end is_copy is =
+    let same : Copy plan ≡ Checkpoint = sym is_copy ∙ ap (λ (o : StreamObject). o.content) is in cc
+
 seal_marks : (state : PlainState) (object : StreamObject) (is_checkpoint : Bool)
     → ((end : ℕ) → object ≡ record { content = Checkpoint; end = end } → is_checkpoint ≡ true)
     → IsPlainVolume state → HasMarked state
@@ -226,6 +235,22 @@ removal_marks : (state : PlainState) (out lowest : Option ℕ) → HasMarked sta
 removal_marks state (Some other) lowest h = h
 removal_marks state None None h = h
 removal_marks state None (Some number) h = h
+
+planning_marks : (state : PlainState) (out : Option (List CopiedSector)) (sectors : List CopiedSector) → HasMarked state
+    → HasMarked (with_plan out sectors state)
+planning_marks state (Some plan) sectors h = h
+planning_marks state None [] h = h
+planning_marks state None (first ∷ more) h = h
+
+copy_marks : (state : PlainState) (is_sealed : Bool) (out : Option (List CopiedSector)) → IsPlainVolume state
+    → HasMarked state → HasMarked (after_sealed_copy is_sealed out state)
+copy_marks state is_sealed None valid h = h
+copy_marks state is_sealed (Some plan) valid h =
+    let object : StreamObject = record { content = Copy plan; end = end_at (stream_in state) (last_number (stream_in state)) } in
+    let unplanned : PlainState = record state { plan = None } in
+    either_state HasMarked is_sealed (with_copy plan state) state
+    (seal_marks unplanned object false (λ end is. absurd (copy_is_none object plan end refl is)) (plans_keep state None valid) h)
+    h
 
 events_mark : (state : PlainState) (event : PlainEvent) → IsPlainVolume state → HasMarked state
     → HasMarked (plain_after event state)
@@ -276,6 +301,9 @@ events_mark state (RemoveDone number) valid h =
     (record state { removed = state.removed ++ number ∷ []; removal = None }) state h h
 events_mark state (RemoveFailed number) valid h =
     either_state HasMarked (is_out number state.removal) (record state { removal = None }) state h h
+events_mark state PlanCopy valid h = planning_marks state state.plan (planned_copy state) h
+events_mark state (SealCopy is_planned) valid h = copy_marks state (is_planned && not (is_busy state)) state.plan valid h
+events_mark state DropPlan valid h = h
 events_mark state Status valid h = h
 
 -- ---- what was removed
@@ -293,6 +321,17 @@ has_more numbers one number = list_any-append (λ other. eqb other number) numbe
 
 given_with : (numbers : List ℕ) (one number : ℕ) → has numbers number ≡ true → has (numbers ++ one ∷ []) number ≡ true
 given_with numbers one number is = has_more numbers one number ∙ or_first (has numbers number) (eqb one number || false) is
+
+planning_gives : (state : PlainState) (out : Option (List CopiedSector)) (sectors : List CopiedSector) → GaveOut state
+    → GaveOut (with_plan out sectors state)
+planning_gives state (Some plan) sectors h = h
+planning_gives state None [] h = h
+planning_gives state None (first ∷ more) h = h
+
+copy_gives : (state : PlainState) (is_sealed : Bool) (out : Option (List CopiedSector)) → GaveOut state
+    → GaveOut (after_sealed_copy is_sealed out state)
+copy_gives state is_sealed None h = h
+copy_gives state is_sealed (Some plan) h = either_state GaveOut is_sealed (with_copy plan state) state h h
 
 removal_gives : (state : PlainState) (out lowest : Option ℕ) → GaveOut state → GaveOut (with_removal out lowest state)
 removal_gives state (Some other) lowest h = h
@@ -362,6 +401,9 @@ events_give state TakeRemove h = removal_gives state state.removal (to_remove st
 events_give state (RemoveDone number) h = done_gives state number h
 events_give state (RemoveFailed number) h =
     either_state GaveOut (is_out number state.removal) (record state { removal = None }) state (h.0, tt) h
+events_give state PlanCopy h = planning_gives state state.plan (planned_copy state) h
+events_give state (SealCopy is_planned) h = copy_gives state (is_planned && not (is_busy state)) state.plan h
+events_give state DropPlan h = h
 events_give state Status h = h
 
 -- ---- a mount

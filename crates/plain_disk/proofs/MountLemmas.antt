@@ -110,6 +110,7 @@ cut_is state number count checkpoint gone cache h from sealed ends within newest
       limits = h.limits;
       sectors = h.sectors;
       owned = h.owned;
+      payloads = h.payloads;
       in_range = All-take P (count - state.end) state.entries h.in_range;
       stream = record { ends = follow_first state.end n state.objects h.stream.ends; within = omega (arith, last_end, counted) };
       window = record { order = omega arith; starts = All-nil (λ object. IsTrue object.is_started → IsTrue object.was_started) };
@@ -229,6 +230,7 @@ on_is state landed log h may limits =
       limits = limits;
       sectors = was.sectors;
       owned = was.owned;
+      payloads = was.payloads;
       in_range = was.in_range;
       stream = was.stream;
       window = was.window;

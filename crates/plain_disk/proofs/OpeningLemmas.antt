@@ -1,9 +1,10 @@
 -- A volume that opens blank goes on to, its newest checkpoint goes on, and each owner of its sectors is an object of its own.
-use Rattle.std.proofs.Common.{arith, ℕ, ◌+◌, ◌≤◌, ◌≡◌, true, false, cond, not, ◌&&◌, Option, Some, None, List, [], ◌++◌, ◌∷◌}
-use Rattle.std.proofs.Common.{get_or, refl, ap, inl, inr}
+use Rattle.std.proofs.Common.{arith, ℕ, ◌+◌, ◌≤◌, ◌≡◌, Bool, true, false, cond, not, ◌&&◌, Option, Some, None, List, []}
+use Rattle.std.proofs.Common.{◌++◌, ◌∷◌, get_or, refl, ap, inl, inr}
 use Rattle.lsvd_base.specs.declared.entry.Entry.TheVariants as entries
 use Rattle.lsvd_base.specs.Limits.{may_transfer}
 use Rattle.object_stream.specs.declared.object.Content.TheVariants.{Data, Checkpoint}
+use Rattle.object_stream.specs.declared.object.CopiedSector.{CopiedSector}
 use Rattle.object_stream.specs.declared.owner.Owner.{Owner}
 use Rattle.object_stream.specs.Stream.{end_at, last_number}
 use Rattle.object_stream.proofs.StreamLemmas.{owns_by_number}
@@ -11,7 +12,8 @@ use Rattle.upload_window.specs.Window.{entered}
 use Rattle.plain_disk.specs.declared.event.PlainEvent.{PlainEvent}
 use Rattle.plain_disk.specs.declared.event.PlainEvent.TheVariants.{Write, Zero, Flush, Look, Release, Seal, TakeJob, JobDone}
 use Rattle.plain_disk.specs.declared.event.PlainEvent.TheVariants.{JobFailed, SealCheckpoint, TakeRemove}
-use Rattle.plain_disk.specs.declared.event.PlainEvent.TheVariants.{RemoveDone, RemoveFailed, Status}
+use Rattle.plain_disk.specs.declared.event.PlainEvent.TheVariants.{RemoveDone, RemoveFailed, PlanCopy, SealCopy, DropPlan}
+use Rattle.plain_disk.specs.declared.event.PlainEvent.TheVariants.{Status}
 use Rattle.plain_disk.specs.Cache.{after_reads}
 use Rattle.plain_disk.specs.State.{PlainState, PlainCheckpoint, OpensBlank, stream_in}
 use Rattle.plain_disk.specs.Checkpoints.{checkpoint_at, is_started_checkpoint}
@@ -19,6 +21,7 @@ use Rattle.plain_disk.specs.Entries.{after_entering, after_flush}
 use Rattle.plain_disk.specs.Objects.{is_busy, has_unsealed, end_of_next, after_take, after_done, window_after_done, after_failed}
 use Rattle.plain_disk.specs.Reads.{look_calls, passes_look, objects_read, are_pinned, without_pins}
 use Rattle.plain_disk.specs.Removals.{to_remove, with_removal, is_out}
+use Rattle.plain_disk.specs.Collection.{planned_copy, with_plan, with_copy, after_sealed_copy, after_drop_plan}
 use Rattle.plain_disk.specs.Step.{plain_after}
 use Rattle.plain_disk.specs.Found.{CreatedOpensBlank, EventsKeepOpening, StopsKeepOpening, MountsKeepOpening, OwnersArePast}
 use Rattle.plain_disk.specs.Found.{CheckpointGoesOn}
@@ -35,6 +38,7 @@ opened_as state checkpoint other = record other {
   number = state.number;
   end = state.end;
   owned = state.owned;
+  payloads = state.payloads;
   checkpoint = checkpoint;
 }
 
@@ -47,6 +51,16 @@ module _ (P : PlainState → Type 0) (state : PlainState) (is : HoldsAs P state 
   removal_by (Some other) lowest = is state
   removal_by None None = is state
   removal_by None (Some number) = is (with_removal None (Some number) state)
+
+  planned_by : (out : Option (List CopiedSector)) (sectors : List CopiedSector) → P (with_plan out sectors state)
+  planned_by (Some plan) sectors = is state
+  planned_by None [] = is state
+  planned_by None (first ∷ more) = is (with_plan None (first ∷ more) state)
+
+  copied_by : (is_sealed : Bool) (out : Option (List CopiedSector)) → P (after_sealed_copy is_sealed out state)
+  copied_by is_sealed None = is state
+  copied_by is_sealed (Some plan) =
+      either_state P is_sealed (with_copy plan state) state (is (with_copy plan state)) (is state)
 
   done_by : (job : Option ℕ)
       → ((number : ℕ) → is_started_checkpoint number state.window.objects ≡ true
@@ -100,16 +114,25 @@ module _ (P : PlainState → Type 0) (state : PlainState) (is : HoldsAs P state 
   event_by done (RemoveFailed number) =
       let failed : PlainState = record state { removal = None } in
       either_state P (is_out number state.removal) failed state (is failed) (is state)
+  event_by done PlanCopy = planned_by state.plan (planned_copy state)
+  event_by done (SealCopy is_planned) = copied_by (is_planned && not (is_busy state)) state.plan
+  event_by done DropPlan = is (after_drop_plan state)
   event_by done Status = is state
 
 -- ---- the opening
 
 pub created_opens : CreatedOpensBlank
-created_opens g = record { number = refl; end = refl; opening = refl; owned = refl }
+created_opens g = record { number = refl; end = refl; opening = refl; owned = refl; payloads = refl }
 
 opens_as : (state other : PlainState) (checkpoint : PlainCheckpoint) → OpensBlank state
     → OpensBlank (opened_as state checkpoint other)
-opens_as state other checkpoint h = record { number = h.number; end = h.end; opening = h.opening; owned = h.owned }
+opens_as state other checkpoint h = record {
+  number = h.number;
+  end = h.end;
+  opening = h.opening;
+  owned = h.owned;
+  payloads = h.payloads;
+}
 
 pub events_keep_opening : EventsKeepOpening
 events_keep_opening state event h =
@@ -117,12 +140,18 @@ events_keep_opening state event h =
     (λ number started other. opens_as state other (checkpoint_at number state) h) event
 
 pub stops_keep_opening : StopsKeepOpening
-stops_keep_opening state calls h = record { number = h.number; end = h.end; opening = h.opening; owned = h.owned }
+stops_keep_opening state calls h = record {
+  number = h.number;
+  end = h.end;
+  opening = h.opening;
+  owned = h.owned;
+  payloads = h.payloads;
+}
 
 pub mounts_keep_opening : MountsKeepOpening
 mounts_keep_opening state landed found log h = (
-  record { number = h.number; end = h.end; opening = h.opening; owned = h.owned },
-  record { number = h.number; end = h.end; opening = h.opening; owned = h.owned },
+  record { number = h.number; end = h.end; opening = h.opening; owned = h.owned; payloads = h.payloads },
+  record { number = h.number; end = h.end; opening = h.opening; owned = h.owned; payloads = h.payloads },
 )
 
 pub owners_are_past : OwnersArePast

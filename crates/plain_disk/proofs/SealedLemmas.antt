@@ -6,7 +6,8 @@ use Rattle.std.proofs.lemmas.List.Folds.{list_any-append}
 use Rattle.std.specs.List.{list_any, slice_get}
 use Rattle.lsvd_base.specs.declared.geometry.Geometry.{Geometry}
 use Rattle.lsvd_base.specs.Limits.{may_transfer}
-use Rattle.object_stream.specs.declared.object.Content.TheVariants.{Data, Checkpoint}
+use Rattle.object_stream.specs.declared.object.CopiedSector.{CopiedSector}
+use Rattle.object_stream.specs.declared.object.Content.TheVariants.{Data, Copy, Checkpoint}
 use Rattle.object_stream.specs.declared.object.StreamObject.{StreamObject}
 use Rattle.object_stream.specs.Landed.{Numbers}
 use Rattle.object_stream.specs.Stream.{is_own, owners, after_objects, end_at, last_number}
@@ -17,20 +18,22 @@ use Rattle.upload_window.specs.Window.{lowest_ready}
 use Rattle.plain_disk.specs.declared.event.PlainEvent.{PlainEvent}
 use Rattle.plain_disk.specs.declared.event.PlainEvent.TheVariants.{Write, Zero, Flush, Look, Release, Seal, TakeJob, JobDone}
 use Rattle.plain_disk.specs.declared.event.PlainEvent.TheVariants.{JobFailed, SealCheckpoint, TakeRemove}
-use Rattle.plain_disk.specs.declared.event.PlainEvent.TheVariants.{RemoveDone, RemoveFailed, Status}
+use Rattle.plain_disk.specs.declared.event.PlainEvent.TheVariants.{RemoveDone, RemoveFailed, PlanCopy, SealCopy, DropPlan}
+use Rattle.plain_disk.specs.declared.event.PlainEvent.TheVariants.{Status}
 use Rattle.plain_disk.specs.Cache.{after_reads}
 use Rattle.plain_disk.specs.State.{PlainState, OpensBlank, created_volume, stream_in}
 use Rattle.plain_disk.specs.Checkpoints.{checkpoint_at, landed_checkpoint, is_started_checkpoint}
 use Rattle.plain_disk.specs.Objects.{is_busy, has_unsealed, end_of_next, window_after_take, after_done}
 use Rattle.plain_disk.specs.Reads.{look_calls, passes_look, objects_read, are_pinned, without_pins}
 use Rattle.plain_disk.specs.Removals.{maps, has, to_remove, with_removal, is_out}
+use Rattle.plain_disk.specs.Collection.{planned_copy, with_plan, with_copy, after_sealed_copy}
 use Rattle.plain_disk.specs.Step.{plain_after}
 use Rattle.plain_disk.specs.Stops.{recovered_number}
 use Rattle.plain_disk.specs.Valid.{IsPlainVolume, is_checkpoint_from}
 use Rattle.plain_disk.specs.Found.{SealsCheckpoints, MappedHaveLanded}
 use Rattle.plain_disk.proofs.CheckpointLemmas.{any_weaker, both_true, either_true, same_number, own_by, some_owns, landed_is}
 use Rattle.plain_disk.proofs.CheckpointLemmas.{given_is_unneeded}
-use Rattle.plain_disk.proofs.EventLemmas.{either_state}
+use Rattle.plain_disk.proofs.EventLemmas.{either_state, plans_keep}
 use Rattle.plain_disk.proofs.FoundStreamLemmas.{slice_of_take}
 use Rattle.plain_disk.proofs.OpeningLemmas.{owners_are_past}
 use Rattle.plain_disk.proofs.StopLemmas.{recovers_base, base_is_checkpoint, base_is_lowest, mapped_has_landed}
@@ -182,6 +185,21 @@ removal_seals state (Some other) lowest h = h
 removal_seals state None None h = h
 removal_seals state None (Some number) h = h
 
+planning_seals : (state : PlainState) (out : Option (List CopiedSector)) (sectors : List CopiedSector) → HasSealed state
+    → HasSealed (with_plan out sectors state)
+planning_seals state (Some plan) sectors h = h
+planning_seals state None [] h = h
+planning_seals state None (first ∷ more) h = h
+
+copy_seals : (state : PlainState) (is_sealed : Bool) (out : Option (List CopiedSector)) → IsPlainVolume state
+    → HasSealed state → HasSealed (after_sealed_copy is_sealed out state)
+copy_seals state is_sealed None valid h = h
+copy_seals state is_sealed (Some plan) valid h =
+    let object : StreamObject = record { content = Copy plan; end = end_at (stream_in state) (last_number (stream_in state)) } in
+    let unplanned : PlainState = record state { plan = None } in
+    either_state HasSealed is_sealed (with_copy plan state) state
+    (seal_seals unplanned object false (λ is. let bad : ⊥ = cc in absurd bad) (plans_keep state None valid) h) h
+
 pub created_sealed : (g : Geometry) → HasSealed (created_volume g)
 created_sealed g number past is =
     elim (either_true (eqb number 1) false is) [
@@ -236,6 +254,10 @@ events_keep_sealed state (RemoveDone number) valid h =
     (record state { removed = state.removed ++ number ∷ []; removal = None }) state h h
 events_keep_sealed state (RemoveFailed number) valid h =
     either_state HasSealed (is_out number state.removal) (record state { removal = None }) state h h
+events_keep_sealed state PlanCopy valid h = planning_seals state state.plan (planned_copy state) h
+events_keep_sealed state (SealCopy is_planned) valid h =
+    copy_seals state (is_planned && not (is_busy state)) state.plan valid h
+events_keep_sealed state DropPlan valid h = h
 events_keep_sealed state Status valid h = h
 
 -- ---- a mount

@@ -168,6 +168,7 @@ stops_keep state calls h = record {
   limits = h.limits;
   sectors = h.sectors;
   owned = h.owned;
+  payloads = h.payloads;
   in_range = h.in_range;
   stream = h.stream;
   window = h.window;

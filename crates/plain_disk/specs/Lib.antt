@@ -9,6 +9,7 @@ pub mod Removals
 pub mod Reads
 pub mod Entries
 pub mod Objects
+pub mod Collection
 pub mod Step
 pub mod Stops
 pub mod Valid

@@ -2,6 +2,7 @@
 use Rattle.std.specs.Prelude.{ℕ, ◌-◌, ◌==◌, Option, Some, None, Bool, false, not, ◌&&◌, nat_lt, List, [], ◌∷◌, ◌++◌, find}
 use Rattle.std.specs.Prelude.{if◌then◌else◌}
 use Rattle.std.specs.List.{list_any, range_with_len, filter}
+use Rattle.object_stream.specs.declared.object.CopiedSector.{CopiedSector}
 use Rattle.object_stream.specs.Landed.{Numbers}
 use Rattle.object_stream.specs.Stream.{is_own}
 use Rattle.plain_disk.specs.declared.event.PlainReply.{PlainReply}
@@ -18,12 +19,18 @@ maps checkpoint number = list_any (is_own number) checkpoint.owned
 abbrev pub has : List ℕ → (number : ℕ) → Bool
 has numbers number = list_any (λ other. other == number) numbers
 
+-- a plan of a copy takes a sector from the object of this number
+abbrev pub copies_from : (plan : Option (List CopiedSector)) → (number : ℕ) → Bool
+copies_from None number = false
+copies_from (Some plan) number = list_any (λ copied. copied.source == number) plan
+
 -- An object may be removed that the newest acknowledged checkpoint has a greater number than, and does not map, where no plan
--- of a read pins it, and it was not removed. What was given out for removal and came back may be given out again.
+-- of a read pins it, no plan of a copy takes a sector from it, and it was not removed. What was given out for removal and came
+-- back may be given out again.
 abbrev pub is_removable : PlainState → (number : ℕ) → Bool
 is_removable state number =
     nat_lt number state.checkpoint.number && not (maps state.checkpoint number) && not (has state.pins number)
-    && not (has state.removed number)
+    && not (copies_from state.plan number) && not (has state.removed number)
 
 -- the lowest number that may be removed, where no removal is out
 abbrev pub to_remove : PlainState → Option ℕ

@@ -1,12 +1,14 @@
 -- Contract: the state of the plain volume.
-use Rattle.std.specs.Prelude.{◌≡◌, ℕ, ◌+◌, ◌-◌, Option, None, List, [], length, take, drop, map, slice_index_or}
+use Rattle.std.specs.Prelude.{◌≡◌, ℕ, ◌+◌, ◌-◌, Option, None, List, [], ◌∷◌, ◌++◌, length, take, drop, map, slice_index_or}
 use Rattle.std.specs.List.{range_with_len}
 use Rattle.lsvd_base.specs.declared.geometry.Geometry.{Geometry}
 use Rattle.lsvd_base.specs.declared.entry.Entry.{Entry}
 use Rattle.lsvd_base.specs.Image.{Image, blank, after}
 use Rattle.object_stream.specs.declared.owner.Owner.{Owner}
+use Rattle.object_stream.specs.declared.object.CopiedSector.{CopiedSector}
 use Rattle.object_stream.specs.declared.object.StreamObject.{StreamObject}
-use Rattle.object_stream.specs.Stream.{Stream, owners, end_at, unsealed}
+use Rattle.object_stream.specs.declared.object.Content.{Content}
+use Rattle.object_stream.specs.Stream.{Stream, owners, objects_to, end_at, unsealed, place_in_object}
 use Rattle.upload_window.specs.Window.{WindowState, below_open}
 use Rattle.plain_disk.specs.Log.{empty_from}
 use Rattle.plain_disk.specs.Cache.{PlainCache, cache_with}
@@ -17,19 +19,22 @@ pub record PlainCheckpoint : Type 0 where
   pub owned : List (Option Owner)
 
 -- A volume as lists: the image, the count of entries and the owners of the sectors that it opens with, after the object of a
--- number; the entries and the objects since then; which of the objects are on their way to the store; the newest checkpoint that
--- is acknowledged; the objects that plans of reads have pinned; those that were removed, those that were ever given out for it,
--- these among them and any whose removal failed, and the one whose removal is out; and the cache.
+-- number, and how many sectors of payload each object from the first up to that one has; the entries and the objects since
+-- then; which of the objects are on their way to the store; the newest checkpoint that is acknowledged; the sectors that the plan
+-- of a copy takes which is out; the objects that plans of reads have pinned; those that were removed, those that were ever given
+-- out for it, these among them and any whose removal failed, and the one whose removal is out; and the cache.
 pub record PlainState : Type 0 where
   pub geometry : Geometry
   pub opening : Image
   pub number : ℕ
   pub end : ℕ
   pub owned : List (Option Owner)
+  pub payloads : List ℕ
   pub entries : List Entry
   pub objects : List StreamObject
   pub window : WindowState
   pub checkpoint : PlainCheckpoint
+  pub plan : Option (List CopiedSector)
   pub pins : List ℕ
   pub removed : List ℕ
   pub given_out : List ℕ
@@ -44,10 +49,12 @@ created_volume g = record {
   number = 1;
   end = 0;
   owned = [];
+  payloads = 0 ∷ [];
   entries = [];
   objects = [];
   window = record { last = 1; objects = [] };
   checkpoint = record { number = 1; owned = [] };
+  plan = None;
   pins = [];
   removed = [];
   given_out = [];
@@ -61,6 +68,7 @@ pub record OpensBlank (state : PlainState) : Type 0 where
   pub end : state.end ≡ 0
   pub opening : state.opening ≡ blank state.geometry.sectors
   pub owned : state.owned ≡ []
+  pub payloads : state.payloads ≡ 0 ∷ []
 
 -- its stream of objects
 abbrev pub stream_in : PlainState → Stream
@@ -95,6 +103,27 @@ logged_entries state = drop (frontier_end state - state.end) state.entries
 abbrev pub unsealed_entries : PlainState → List Entry
 unsealed_entries state = unsealed (stream_in state)
 
+-- ---- payload
+
+-- how many sectors of payload an object with these entries has: those that data put, or that a copy copies
+abbrev pub payload_by : (sectors : ℕ) → List Entry → Content → ℕ
+payload_by sectors entries content = place_in_object content entries sectors
+
+-- how many objects have, one after the other, where these are the entries from the end before them on
+abbrev pub payloads_after : (sectors end : ℕ) → List Entry → List StreamObject → List ℕ
+payloads_after sectors end entries [] = []
+payloads_after sectors end entries (object ∷ objects) =
+    payload_by sectors (take (object.end - end) entries) object.content
+    ∷ payloads_after sectors object.end (drop (object.end - end) entries) objects
+
+-- how many all objects have, from the first on
+abbrev pub payloads_in : PlainState → List ℕ
+payloads_in state = state.payloads ++ payloads_after state.geometry.sectors state.end state.entries state.objects
+
+-- how many the object of a number has
+abbrev pub payload_of : PlainState → (number : ℕ) → ℕ
+payload_of state number = slice_index_or (0 ∷ payloads_in state) number 0
+
 -- ---- a later opening
 
 -- The owners of the first N sectors after the objects up to a number, as a list.
@@ -110,6 +139,9 @@ folded_to number state =
       number = number;
       end = ends;
       owned = owned_after state.geometry.sectors state number;
+      payloads =
+          state.payloads
+          ++ payloads_after state.geometry.sectors state.end state.entries (objects_to (stream_in state) number);
       entries = drop (ends - state.end) state.entries;
       objects = drop (number - state.number) state.objects;
     }

@@ -4,7 +4,8 @@ use Rattle.lsvd_base.specs.declared.entry.Entry.TheVariants as entries
 use Rattle.plain_disk.specs.declared.event.PlainEvent.{PlainEvent}
 use Rattle.plain_disk.specs.declared.event.PlainEvent.TheVariants.{Write, Zero, Flush, Look, Release, Seal, TakeJob, JobDone}
 use Rattle.plain_disk.specs.declared.event.PlainEvent.TheVariants.{JobFailed, SealCheckpoint, TakeRemove}
-use Rattle.plain_disk.specs.declared.event.PlainEvent.TheVariants.{RemoveDone, RemoveFailed, Status}
+use Rattle.plain_disk.specs.declared.event.PlainEvent.TheVariants.{RemoveDone, RemoveFailed, PlanCopy, SealCopy, DropPlan}
+use Rattle.plain_disk.specs.declared.event.PlainEvent.TheVariants.{Status}
 use Rattle.plain_disk.specs.declared.event.PlainReply.{PlainReply}
 use Rattle.plain_disk.specs.declared.event.PlainReply.TheVariants as replies
 use Rattle.plain_disk.specs.State.{PlainState}
@@ -14,6 +15,8 @@ use Rattle.plain_disk.specs.Objects.{seal_reply, after_seal, take_reply, after_t
 use Rattle.plain_disk.specs.Objects.{after_failed, seal_checkpoint_reply, after_seal_checkpoint, status_reply}
 use Rattle.plain_disk.specs.Removals.{take_remove_reply, after_take_remove, remove_done_reply, after_remove_done}
 use Rattle.plain_disk.specs.Removals.{remove_failed_reply, after_remove_failed}
+use Rattle.plain_disk.specs.Collection.{plan_copy_reply, after_plan_copy, seal_copy_reply, after_seal_copy, drop_plan_reply}
+use Rattle.plain_disk.specs.Collection.{after_drop_plan}
 
 -- what the volume answers to each event
 abbrev pub plain_reply : PlainState → PlainEvent → PlainReply
@@ -30,10 +33,14 @@ plain_reply state SealCheckpoint = seal_checkpoint_reply state
 plain_reply state TakeRemove = take_remove_reply state
 plain_reply state (RemoveDone number) = remove_done_reply state number
 plain_reply state (RemoveFailed number) = remove_failed_reply state number
+plain_reply state PlanCopy = plan_copy_reply state
+plain_reply state (SealCopy is_planned) = seal_copy_reply state is_planned
+plain_reply state DropPlan = drop_plan_reply state
 plain_reply state Status = status_reply state
 
 -- A reply refuses its event by what the volume is, whatever its device does and whatever room its log has: the sectors are not
--- its own, the batch is full, there is nothing to seal, to put or to give back, or 16 objects are on their way.
+-- its own, the batch is full, there is nothing to seal, to put, to copy or to give back, or 16 objects are on their way, or a
+-- plan of a copy is out.
 abbrev pub is_refusal : PlainReply → Bool
 is_refusal replies.Range = true
 is_refusal (replies.BatchFull sectors) = true
@@ -57,4 +64,7 @@ plain_after SealCheckpoint state = after_seal_checkpoint state
 plain_after TakeRemove state = after_take_remove state
 plain_after (RemoveDone number) state = after_remove_done number state
 plain_after (RemoveFailed number) state = after_remove_failed number state
+plain_after PlanCopy state = after_plan_copy state
+plain_after (SealCopy is_planned) state = after_seal_copy is_planned state
+plain_after DropPlan state = after_drop_plan state
 plain_after Status state = state

@@ -35,12 +35,13 @@ kept_count landed commit state = max (recovered_end landed state) commit.head.se
 
 -- ---- what it makes of it
 
--- the volume with its first N entries and its objects up to a number, which are acknowledged
+-- the volume with its first N entries and its objects up to a number, which are acknowledged; no plan is out
 abbrev pub cut_to_count : (number count : ℕ) → PlainState → PlainState
 cut_to_count number count state = record state {
   entries = take (count - state.end) state.entries;
   objects = take (number - state.number) state.objects;
   window = record { last = number; objects = [] };
+  plan = None;
   pins = [];
   removal = None;
 }

@@ -67,11 +67,13 @@ abbrev pub BeginsAfterLower : WindowState → Type 0
 BeginsAfterLower window =
     All (λ object. IsTrue (object.was_started && object.is_checkpoint) → object.number ≤ below_open window + 1) window.objects
 
--- what holds of each plain volume that is reached
+-- What holds of each plain volume that is reached. It knows the payload of each object from the first up to that which it opens
+-- after.
 pub record IsPlainVolume (state : PlainState) : Type 0 where
   pub limits : IsTrue (is_within_limits state.geometry)
   pub sectors : length state.opening ≡ state.geometry.sectors
   pub owned : length state.owned ≤ state.geometry.sectors
+  pub payloads : length state.payloads ≡ state.number
   pub in_range : All (λ entry. is_in_range state.geometry entry ≡ true) state.entries
   pub stream : IsStream (stream_in state)
   pub window : IsWindow state.window

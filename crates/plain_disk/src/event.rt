@@ -1,5 +1,6 @@
 use crate::numbers::ObjectNumbers;
 use lsvd_base::Body;
+use object_stream::CopiedSectors;
 
 /// What is asked of the plain volume: numbers and sectors alone.
 #[derive(Drop)]
@@ -32,6 +33,12 @@ pub enum PlainEvent {
     RemoveDone { number: u64 },
     /// The removal of the object with this number failed.
     RemoveFailed { number: u64 },
+    /// Plans a copy of sectors out of objects that few sectors are live in.
+    PlanCopy,
+    /// Seals what was copied, which is that of the plan that is out, or is not.
+    SealCopy { is_planned: bool },
+    /// Gives the plan of a copy up.
+    DropPlan,
     /// Asks for the counts.
     Status,
 }
@@ -72,6 +79,10 @@ pub enum PlainReply {
     Removed,
     /// The object of the removal that failed may be removed again.
     GivenBack,
+    /// A plan copies these sectors.
+    Copying(CopiedSectors),
+    /// The plan of a copy was given up.
+    Dropped,
     /// How many entries the history has, and the numbers of the last object that was sealed, of the frontier,
     /// and of the newest checkpoint that was sealed.
     Told {
@@ -92,9 +103,9 @@ pub enum PlainReply {
     },
     /// The volume does not take a request for these sectors.
     Range,
-    /// There is nothing to seal, to put, to remove, or to give back.
+    /// There is nothing to seal, to put, to remove, to copy, or to give back.
     Nothing,
-    /// 16 objects are on their way to the store.
+    /// 16 objects are on their way to the store, or a plan of a copy is out.
     Busy,
     /// The device failed a call of the request.
     Fault,

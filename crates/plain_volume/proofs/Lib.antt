@@ -1,8 +1,10 @@
+mod Collecting
 mod Entering
 mod Followed
 mod LandedNumbers
 mod Newest
 mod Numbers
+mod Payloads
 mod Pending
 mod PinLists
 mod Ranges

@@ -1,5 +1,5 @@
 -- For this crate's own clauses: what the program of the plain volume keeps of its fields.
-use Rattle.std.specs.Prelude.{◌≡◌, ℕ, ◌+◌, ◌^◌, ◌<◌, ◌≤◌, not, ◌&&◌, IfSome, IsTrue, Option, Some, None, Bool, true}
+use Rattle.std.specs.Prelude.{◌≡◌, ℕ, ◌+◌, ◌*◌, ◌==◌, ◌^◌, ◌<◌, ◌≤◌, not, ◌&&◌, IfSome, IsTrue, Option, Some, None, Bool, true}
 use Rattle.std.specs.Prelude.{false, ◌||◌, nat_lt, List, [], ◌∷◌, ◌++◌, length, map, if◌then◌else◌}
 use Rattle.std.specs.List.{All, list_any, range_with_len, filter}
 use Rattle.lsvd_base.specs.declared.geometry.Geometry.{Geometry}
@@ -23,7 +23,9 @@ use Rattle.plain_disk.specs.declared.event.PlainReply.{PlainReply}
 use Rattle.plain_disk.specs.declared.event.PlainReply.TheVariants.{NoRoom, Fault}
 use Rattle.plain_disk.specs.Cache.{PlainCache, passes_entry, cache_after_entry, passes_commit, cache_after_commit}
 use Rattle.plain_disk.specs.Entries.{has_room_for}
-use Rattle.plain_disk.specs.State.{PlainState, PlainCheckpoint}
+use Rattle.plain_disk.specs.State.{PlainState, PlainCheckpoint, frontier_of, payloads_in, payload_of, owned_after}
+use Rattle.plain_disk.specs.Collection.{live_in}
+use Rattle.plain_volume.specs.declared.collection.Share.{Share}
 
 -- no number of a list of entries comes near to this, since each entry takes memory
 abbrev pub max_seq : ℕ
@@ -116,3 +118,34 @@ sealed_with object is_checkpoint state = record state {
   objects = state.objects ++ object ∷ [];
   window = entered (state.window.last + 1) is_checkpoint state.window;
 }
+
+-- ---- collections
+
+-- the owners of a volume's sectors at the frontier
+abbrev pub owned_now : PlainState → List (Option Owner)
+owned_now state = owned_after state.geometry.sectors state (frontier_of state)
+
+-- these are they, and these the payloads of a volume's objects
+pub record AreSeen (owned : List (Option Owner)) (payloads : List ℕ) (state : PlainState) : Type 0 where
+  pub of_sectors : owned ≡ owned_now state
+  pub of_objects : payloads ≡ payloads_in state
+
+-- how much of the object of a number is live
+abbrev pub share_of : PlainState → (number : ℕ) → Share
+share_of state number = record { number = number; live = live_in state number; payload = payload_of state number }
+
+-- it has a live sector, and fewer than 70 in a hundred of its payload
+abbrev pub is_little_live : Share → Bool
+is_little_live share = nat_lt 0 share.live && nat_lt (share.live * 100) (70 * share.payload)
+
+-- a smaller share is live than of another or, where the shares are the same, the number is smaller
+abbrev pub goes_before : Share → Share → Bool
+goes_before share other =
+    let mine : ℕ = share.live * other.payload in
+    let its : ℕ = other.live * share.payload in
+    nat_lt mine its || (mine == its && nat_lt share.number other.number)
+
+-- shares in order with one more
+abbrev pub put_share : Share → List Share → List Share
+put_share share [] = share ∷ []
+put_share share (first ∷ rest) = if goes_before first share then first ∷ put_share share rest else share ∷ first ∷ rest

@@ -79,8 +79,8 @@ impl Checkpoint {
     }
 }
 
-// The owners of the first sectors after the objects up to a number. The one error is that memory ran out.
-fn owned_in(
+/// The owners of the first sectors after the objects up to a number. The one error is that memory ran out.
+pub(crate) fn owned_in(
     alloc: Global,
     stream: &PlainStream,
     number: u64,

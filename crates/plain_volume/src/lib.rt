@@ -6,6 +6,7 @@
 
 mod cache;
 mod checkpoints;
+mod collection;
 mod history;
 mod landed;
 mod log;

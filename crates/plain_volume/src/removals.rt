@@ -1,8 +1,10 @@
-ghost use Rattle.std.specs.Prelude.{◌≡◌, IfOk};
+ghost use Rattle.std.specs.Prelude.{◌≡◌, ◌==◌, IfOk};
+ghost use Rattle.std.specs.List.{list_any};
 ghost use Rattle.object_stream.specs.Plain.{numbers_of};
 ghost use Rattle.plain_disk.specs.Removals.{has, is_out, absent_of};
 
 use crate::landed::has_landed;
+use object_stream::CopiedSector;
 use std::alloc::{AllocError, Global};
 
 /// Whether the number is one of these.
@@ -10,6 +12,13 @@ pub(crate) fn has(numbers: &[u64], number: u64) -> bool
     ensures { result ≡ has numbers.now number }
 {
     numbers.iter().any(|other| *other == number)
+}
+
+/// Whether one of the sectors is copied from the object of this number.
+pub(crate) fn takes_from(sectors: &[CopiedSector], number: u64) -> bool
+    ensures { result ≡ list_any (λ copied. copied.source == number) sectors.now }
+{
+    sectors.iter().any(|copied| copied.source == number)
 }
 
 /// Whether the removal of this number is out.

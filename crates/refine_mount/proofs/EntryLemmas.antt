@@ -4,7 +4,7 @@ use Rattle.std.proofs.lemmas.List.{append-nil, take-append-le}
 use Rattle.lsvd_base.specs.declared.entry.Entry.{Entry}
 use Rattle.lsvd_base.specs.Image.{after}
 use Rattle.object_uploads.specs.Order.{IsUploads}
-use Rattle.object_uploads.specs.Image.{HasImage}
+use Rattle.object_uploads.specs.Image.{HasImage, AreCopied}
 use Rattle.obj_log.specs.State.{ObjLogState}
 use Rattle.obj_log.specs.Changes.{IsAdded}
 use Rattle.obj_log.proofs.StreamLemmas.{adding_keeps_stream, next_seq}
@@ -13,6 +13,7 @@ use Rattle.plain_disk.specs.Log.{PlainLog}
 use Rattle.plain_disk.specs.Cache.{cache_with}
 use Rattle.plain_disk.specs.State.{PlainState, stream_in, history_length, frontier_end}
 use Rattle.refine_objects.specs.Shows.{settled_image, ShowsObjects}
+use Rattle.refine_objects.proofs.AlikeLemmas.{same_alike}
 use Rattle.refine_objects.proofs.ShowLemmas.{room_shows_same, shown_with_other_cache}
 use Rattle.refine_mount.specs.Mounted.{going_on, AddsEntries}
 use Rattle.refine_mount.specs.Laws.{EntriesGoOn}
@@ -40,6 +41,11 @@ module _ (data_at : ℕ → ℕ) (log : PlainLog) where
             subst (λ entries. HasImage (after plain.opening entries) new.uploads.queue) (sym same)
             (kept.image (settled_image plain) shows.image);
         receipts = kept.receipts shows.receipts;
+        copied = λ tells alike.
+            subst (λ entries. AreCopied tells (after plain.opening entries) new.uploads.queue) (sym same)
+            (kept.copies tells (settled_image plain)
+            (shows.copied tells (same_alike tells old.uploads.queue new.uploads.queue at.entered.receipts at.entered.sealed
+            alike)));
       }
 
   all_go_on : (entries : List Entry) (old new : ObjLogState) (plain : PlainState) → HasEntriesToFrontier plain

@@ -77,6 +77,7 @@ mounted_is_plain_volume geometry checkpoint end plain body rows entries rest may
       limits = valid.limits;
       sectors = valid.sectors;
       owned = valid.owned;
+      payloads = valid.payloads;
       in_range =
           All-append (λ entry. is_in_range plain.geometry entry ≡ true) plain.entries entries valid.in_range
           (subst (λ g. All (λ entry. is_in_range g entry ≡ true) entries) (sym rest.geometry_is) in_range);

@@ -14,3 +14,4 @@ pub mod StoredLemmas
 pub mod StopLemmas
 pub mod GateLemmas
 pub mod LeftLemmas
+pub mod CutPayloads

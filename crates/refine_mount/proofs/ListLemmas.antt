@@ -1,13 +1,15 @@
 -- Each list that was recovered shows some plain volume, which opens after the last of its objects.
-use Rattle.std.proofs.Common.{◌≡◌, ℕ, ◌+◌, ◌-◌, ◌<◌, ◌≤◌, ◌&&◌, not, nat_lt, Bool, true, false, inl, inr, IsTrue, Option, Some}
-use Rattle.std.proofs.Common.{None, List, [], length, take, get_or, refl, sym, ◌∙◌, ap, subst, arith}
+use Rattle.std.proofs.Common.{◌≡◌, ℕ, suc, ◌+◌, ◌-◌, ◌<◌, ◌≤◌, ◌&&◌, not, nat_lt, Bool, true, false, inl, inr, IsTrue, Option}
+use Rattle.std.proofs.Common.{Some}
+use Rattle.std.proofs.Common.{None, List, [], ◌∷◌, length, map, take, get_or, refl, sym, ◌∙◌, ap, subst, arith}
+use Rattle.std.proofs.lemmas.List.{append-nil}
 use Rattle.std.specs.Prelude.{IsSome, IfSome, is_some}
-use Rattle.std.specs.List.{All, list_any}
+use Rattle.std.specs.List.{All, list_any, range_with_len}
 use Rattle.std.proofs.Math.Seq.{take-nil, drop-nil}
 use Rattle.std.proofs.lemmas.Bool.{cases_lt}
 use Rattle.std.proofs.lemmas.Bool.Decides.{nat_tests}
 use Rattle.std.proofs.lemmas.List.Elements.{All-nil, All-weaker}
-use Rattle.std.proofs.lemmas.List.FromFn.{length-map-range_with_len}
+use Rattle.std.proofs.lemmas.List.FromFn.{get_or-map-range_with_len, length-map-range_with_len}
 use Rattle.lsvd_base.specs.declared.geometry.Geometry.{Geometry}
 use Rattle.lsvd_base.specs.declared.entry.Entry.{Entry}
 use Rattle.lsvd_base.specs.Image.{Image, after}
@@ -20,6 +22,8 @@ use Rattle.object_stream.specs.Stream.{Stream, owners, is_own, after_objects, en
 use Rattle.object_stream.specs.Laws.{from_object}
 use Rattle.object_table.specs.declared.row.ObjectRow.{ObjectRow}
 use Rattle.object_table.specs.Table.{row_of}
+use Rattle.object_table.proofs.Listed.{found_holds}
+use Rattle.object_table.proofs.Rows.{its_number}
 use Rattle.volume_maps.specs.declared.place.ObjectPlace.{ObjectPlace}
 use Rattle.volume_maps.specs.Places.{left_at}
 use Rattle.volume_maps.specs.Maps.{settled_at}
@@ -34,7 +38,7 @@ use Rattle.obj_log.specs.Changes.{expected_of_volume}
 use Rattle.plain_disk.specs.Log.{empty_from}
 use Rattle.plain_disk.specs.Cache.{cache_with}
 use Rattle.plain_disk.specs.Removals.{maps, has}
-use Rattle.plain_disk.specs.State.{PlainState, stream_in, frontier_end}
+use Rattle.plain_disk.specs.State.{PlainState, stream_in, frontier_end, payload_of}
 use Rattle.plain_disk.specs.Valid.{IsUnneeded, IsPlainCheckpoint}
 use Rattle.plain_disk.proofs.EventLemmas.{log_has_sectors}
 use Rattle.object_recovery.specs.Recovery.{IsListUpTo}
@@ -45,11 +49,19 @@ use Rattle.refine_objects.specs.Shows.{ShowsObjects}
 use Rattle.refine_objects.specs.Table.{passes_unmapped, ShowsTable}
 use Rattle.refine_mount.specs.Rest.{IsAtRest}
 use Rattle.refine_mount.specs.Laws.{ListShowsSome}
-use Rattle.refine_mount.proofs.TableLemmas.{none_pinned}
+use Rattle.refine_mount.proofs.TableLemmas.{none_pinned, none_copied}
 use Rattle.refine_mount.proofs.MissingLemmas.{missing_in, has_missing, all_missing, missing_is_below}
 use Rattle.refine_mount.proofs.TellLemmas.{Tells, held_owners, held_owner_at, own_live, live_has_row, live_is_mapped, some_tell}
 
 -- ---- the volume
+
+-- the payloads of objects up to a number, as rows say
+abbrev payload_in : Option ObjectRow → ℕ
+payload_in None = 0
+payload_in (Some row) = row.payload
+
+abbrev payloads_to : (number : ℕ) → List ObjectRow → List ℕ
+payloads_to number rows = map (λ n. payload_in (row_of n rows)) (range_with_len 1 number)
 
 -- It opens with this image after the last object of the list, and nothing was done since. Its newest checkpoint has these owners,
 -- and the objects that have no row were removed.
@@ -60,10 +72,12 @@ opened_after geometry checkpoint number end image queue owned = record {
   number = number;
   end = end;
   owned = held_owners geometry.sectors queue;
+  payloads = payloads_to number queue.maps.objects.rows;
   entries = [];
   objects = [];
   window = record { last = number; objects = [] };
   checkpoint = record { number = checkpoint; owned = owned };
+  plan = None;
   pins = [];
   removed = missing_in queue.maps.objects.rows number;
   given_out = missing_in queue.maps.objects.rows number;
@@ -147,6 +161,7 @@ module _ (uuid : List ℕ) (geometry : Geometry) (checkpoint number end : ℕ) (
           limits = limits;
           sectors = sectors;
           owned = omega (arith, count);
+          payloads = length-map-range_with_len (λ n. payload_in (row_of n rows)) 1 number;
           in_range = All-nil (λ entry. is_in_range geometry entry ≡ true);
           stream = record { ends = tt; within = omega (arith, last_ends) };
           window = record {
@@ -206,6 +221,24 @@ module _ (uuid : List ℕ) (geometry : Geometry) (checkpoint number end : ℕ) (
             | false ↦ λ mapped. refl
           ] refl
 
+  -- each row says the payload that the volume knows
+  row_payload : (other : ℕ) (found : Option ObjectRow) → row_of other rows ≡ found
+      → IfSome found (λ row. 0 < row.live → row.payload ≡ payload_of volume other)
+  row_payload other None at = tt
+  row_payload other (Some row) at = λ live.
+      (
+      let within = found_holds (λ (r : ObjectRow). r.number ≤ queue.frontier) other rows row at known.within in
+      let from_one = found_holds (λ (r : ObjectRow). 1 ≤ r.number) other rows row at known.from_one in
+      let named = its_number other rows row at in
+      let index : suc (other - 1) ≡ other = omega (arith, from_one, named) in
+      let list = payloads_to number rows in
+      let payload_is : get_or (0 ∷ list) (suc (other - 1)) 0 ≡ row.payload =
+      get_or-map-range_with_len (λ n. payload_in (row_of n rows)) 1 number (other - 1) other 0
+      (omega (arith, within, named, reached, from_one)) (omega (arith, from_one, named))
+      ∙ ap payload_in at in
+      sym (ap (λ (l : List ℕ). get_or (0 ∷ l) other 0) (append-nil list)
+      ∙ (ap (λ n. get_or (0 ∷ list) n 0) (sym index) ∙ payload_is)))
+
   pub opened_shows_table : ShowsTable queue volume
   opened_shows_table = record {
     checkpoint = table.checkpoint_is;
@@ -213,9 +246,12 @@ module _ (uuid : List ℕ) (geometry : Geometry) (checkpoint number end : ℕ) (
     known = λ other low high. known_here other low (omega (arith, high, reached));
     unmapped = λ other. row_shown other (row_of other rows) refl;
     pins = λ other. none_pinned rows other (row_of other rows) refl table.unpinned;
+    copied = λ other. none_copied rows other (row_of other rows) refl table.not_copied;
+    payload = λ other. row_payload other (row_of other rows) refl;
     free = tt;
     gone = All-weaker (λ other. (1 ≤ other) × (other ≤ number) × (row_of other rows ≡ None)) (λ other. other < checkpoint)
         (λ other missing. missing_early other missing.1 missing.2) volume.removed (all_missing rows number);
+    reached = tt;
   }
     where
       there : (b : Bool) → b ≡ not (not b)
@@ -283,6 +319,7 @@ module _ (uuid : List ℕ) (geometry : Geometry) (checkpoint number end : ℕ) (
         window = list.window;
         image = subst (λ entries. HasImage (after image entries) log.uploads.queue) (sym none) has;
         receipts = rw list.sealed tt;
+        copied = λ tells alike. rw list.sealed tt;
       }
 
 pub list_shows_some : ListShowsSome

@@ -50,6 +50,7 @@ moved_is log plain removed cache valid limits size of_log = record {
   limits = limits;
   sectors = valid.sectors;
   owned = valid.owned;
+  payloads = valid.payloads;
   in_range =
       All-weaker (λ entry. is_in_range plain.geometry entry ≡ true)
       (λ entry. is_in_range (sizes_with log plain.geometry) entry ≡ true) (still_in_range log plain.geometry) plain.entries
@@ -127,4 +128,5 @@ recovered_shows_objects uuid data_at size plain number objects log valid has lis
       window = list.window ∙ ap (λ n. record { last = n; objects = [] }) recovered.number_is;
       image = subst (λ i. HasImage i log.uploads.queue) (sym (cut_image plain number)) recovered.streams.image;
       receipts = recovered.streams.receipts;
+      copied = λ tells alike. rw list.sealed tt;
     }

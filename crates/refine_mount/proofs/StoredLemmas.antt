@@ -17,13 +17,13 @@ use Rattle.object_stream.specs.declared.object.Content.TheVariants.{Data, Copy, 
 use Rattle.object_stream.specs.declared.object.StreamObject.{StreamObject}
 use Rattle.object_stream.specs.Replay.{expected_at}
 use Rattle.object_stream.specs.Stored.{IsObjectStored, AreStored}
-use Rattle.object_stream.specs.Stream.{GoesTo, EndsFollow, end_after}
+use Rattle.object_stream.specs.Stream.{Owners, after_object, GoesTo, EndsFollow, end_after}
 use Rattle.object_stream.proofs.StreamLemmas.{end_no_earlier, follow_first}
 use Rattle.cache_log.specs.Rows.{entry_of, Follow}
 use Rattle.cache_log.specs.Opening.{AreRowsOfLog, sectors_between}
 use Rattle.cache_log.proofs.ForCallers.{from_is_between}
 use Rattle.plain_disk.specs.declared.log.PlainCommit.{PlainCommit}
-use Rattle.plain_disk.specs.State.{PlainState}
+use Rattle.plain_disk.specs.State.{stream_in, PlainState}
 use Rattle.plain_disk.specs.Valid.{IsPlainVolume}
 use Rattle.refine_log.proofs.Following.{Reaches, reach_used}
 use Rattle.stopped_volume.specs.Device.{CacheOwner}
@@ -31,6 +31,7 @@ use Rattle.refine_log.specs.Stops.{entries_past, HasCommit}
 use Rattle.refine_log.proofs.EntryLemmas.{past_first}
 use Rattle.object_recovery.specs.Checkpoints.{expected_of}
 use Rattle.refine_mount.specs.Found.{HasObjects}
+use Rattle.refine_mount.proofs.CutPayloads.{payload_of_cut}
 use Rattle.refine_mount.specs.Mounted.{end_of_object, mounted_with, mounted_without}
 use Rattle.refine_mount.specs.Laws.{MountedIsStored}
 use Rattle.refine_mount.proofs.RestLemmas.{mounted_is_at_rest}
@@ -90,31 +91,37 @@ no_earlier Checkpoint end_before end goes = omega (arith, goes)
 
 -- objects have just the entries up to their end
 stored_cut : (objects : Objects) (uuid_at : ℕ → Option (List ℕ)) (volume : Expected) (number end many : ℕ) (entries : List Entry)
-    (list : List StreamObject)
-    → EndsFollow end list → end_after end list ≤ end + many → AreStored objects uuid_at volume number end entries list
-    → AreStored objects uuid_at volume number end (take many entries) list
-stored_cut objects uuid_at volume number end many entries [] follow most are = tt
-stored_cut objects uuid_at volume number end many entries (object ∷ more) follow most are =
+    (before : Owners) (list : List StreamObject)
+    → EndsFollow end list → end_after end list ≤ end + many → AreStored objects uuid_at volume number end entries before list
+    → AreStored objects uuid_at volume number end (take many entries) before list
+stored_cut objects uuid_at volume number end many entries before [] follow most are = tt
+stored_cut objects uuid_at volume number end many entries before (object ∷ more) follow most are =
     let size : ℕ = object.end - end in
     let from = no_earlier object.content end object.end follow.0 in
-    let rest = end_no_earlier object.end more follow.1 in (
-      subst (IsObjectStored objects uuid_at (expected_at volume (number + 1) end) object)
-          (sym (take-take size many entries (omega (arith, most, rest)))) are.0,
-      subst (λ l. AreStored objects uuid_at volume (number + 1) object.end l more) (sym (past_first size many entries))
-          (stored_cut objects uuid_at volume (number + 1) object.end (many - size) (drop size entries) more follow.1
-          (omega (arith, most, rest, from)) are.1),
+    let rest = end_no_earlier object.end more follow.1 in
+    let own : take size (take many entries) ≡ take size entries =
+    take-take size many entries (omega (arith, most, rest)) in
+    let After : List Entry → Owners = λ part. after_object (number + 1) object.content part before in (
+      subst (IsObjectStored objects uuid_at (expected_at volume (number + 1) end) before object) (sym own) are.0,
+      subst (λ part. AreStored objects uuid_at volume (number + 1) object.end (drop size (take many entries)) (After part) more)
+          (sym own)
+          (subst (λ l. AreStored objects uuid_at volume (number + 1) object.end l (After (take size entries)) more)
+          (sym (past_first size many entries))
+          (stored_cut objects uuid_at volume (number + 1) object.end (many - size) (drop size entries)
+          (After (take size entries)) more follow.1 (omega (arith, most, rest, from)) are.1)),
     )
 
 mounted_has_objects : (uuid : List ℕ) (plain : PlainState) (found : PlainCommit) (number : ℕ) (objects : Objects)
-    → IsPlainVolume (mounted_with found number plain) → HasObjects uuid plain number objects
+    → IsPlainVolume plain → IsPlainVolume (mounted_with found number plain) → HasObjects uuid plain number objects
     → HasObjects uuid (mounted_with found number plain) number objects
-mounted_has_objects uuid plain found number objects valid has =
+mounted_has_objects uuid plain found number objects plain_is valid has =
     let volume : Expected = expected_of uuid plain.geometry in
     let stored = has.stored.stored in
     let n : ℕ = number - plain.number in
     let many : ℕ = max (end_of_object number plain) found.head.seq - plain.end in
     let same : take n (take n plain.objects) ≡ take n plain.objects = take-take n n plain.objects (omega arith) in
     let last = stored.last in
+    let opening = (stream_in plain).opening in
     let count = length-take-le n plain.objects (omega (arith, last)) in
     record {
       uuid_at = has.uuid_at;
@@ -122,8 +129,13 @@ mounted_has_objects uuid plain found number objects valid has =
       window = refl;
       pins = refl;
       none_out = refl;
+      no_plan = refl;
       gone = has.gone;
       present = has.present;
+      payloads = λ other payload low there.
+          has.payloads other payload low there
+          ∙ sym (payload_of_cut plain number (max (end_of_object number plain) found.head.seq) other plain_is
+          (omega (arith, stored.base, stored.missing.above)) last (omega arith) low);
       stored = record {
         own = has.stored.own;
         valid = valid.stream;
@@ -136,12 +148,13 @@ mounted_has_objects uuid plain found number objects valid has =
           opens = record { is = stored.opens.is; value = stored.opens.value };
           last = omega (arith, count);
           stored =
-              subst (AreStored objects has.uuid_at volume plain.number plain.end (take many plain.entries)) (sym same)
-              (stored_cut objects has.uuid_at volume plain.number plain.end many plain.entries (take n plain.objects)
+              subst (AreStored objects has.uuid_at volume plain.number plain.end (take many plain.entries) opening) (sym same)
+              (stored_cut objects has.uuid_at volume plain.number plain.end many plain.entries opening (take n plain.objects)
               (follow_first plain.end n plain.objects has.stored.valid.ends) (omega arith) stored.stored);
           past = stored.past;
         };
-        hold_data = subst (All (λ (object : StreamObject). object.content ≡ Data)) (sym same) has.stored.hold_data;
+        no_checkpoint =
+            subst (All (λ (object : StreamObject). object.content ≡ Checkpoint → ⊥)) (sym same) has.stored.no_checkpoint;
         inside = All-take (EndsBy plain.geometry.sectors) many plain.entries has.stored.inside;
       };
     }
@@ -149,4 +162,4 @@ mounted_has_objects uuid plain found number objects valid has =
 pub mounted_is_stored : MountedIsStored
 mounted_is_stored uuid owner plain found number objects left valid has_objects has =
     let mounted = mounted_is_valid uuid owner plain found number objects left valid has_objects has in
-    (mounted, mounted_has_objects uuid plain found number objects mounted has_objects)
+    (mounted, mounted_has_objects uuid plain found number objects valid mounted has_objects)

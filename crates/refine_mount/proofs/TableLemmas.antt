@@ -1,5 +1,5 @@
 -- The table of a list that was recovered shows what a mount makes of a plain volume, and goes on showing it with entries more.
-use Rattle.std.proofs.Common.{◌≡◌, ℕ, ◌+◌, ◌-◌, ◌<◌, ◌&&◌, not, nat_lt, Bool, true, false, Option, Some, None, List, []}
+use Rattle.std.proofs.Common.{◌≡◌, ℕ, ◌+◌, ◌-◌, ◌<◌, ◌≤◌, ◌&&◌, not, nat_lt, Bool, true, false, Option, Some, None, List, []}
 use Rattle.std.proofs.Common.{◌∷◌, ◌++◌, length, take, get_or, refl, sym, ◌∙◌, ap, subst, arith}
 use Rattle.std.specs.Prelude.{IfSome, IsTrue, ◌↔◌}
 use Rattle.std.specs.List.{All}
@@ -11,18 +11,25 @@ use Rattle.stopped_volume.specs.Opening.{IsCheckpointOf}
 use Rattle.object_table.specs.declared.row.ObjectRow.{ObjectRow}
 use Rattle.object_table.specs.Table.{row_of}
 use Rattle.object_table.proofs.Listed.{found_holds}
+use Rattle.object_table.proofs.Rows.{its_number}
+use Rattle.object_table.specs.Table.{TableState}
 use Rattle.object_uploads.specs.Queue.{pins_of}
 use Rattle.object_uploads.specs.State.{QueueState}
 use Rattle.plain_disk.specs.Cache.{cache_with}
 use Rattle.plain_disk.specs.Log.{PlainLog}
-use Rattle.plain_disk.specs.State.{PlainState, PlainCheckpoint, stream_in}
+use Rattle.plain_disk.specs.State.{PlainState, PlainCheckpoint, stream_in, payload_of}
 use Rattle.plain_disk.specs.Removals.{maps}
 use Rattle.plain_disk.specs.Valid.{IsUnneeded, IsPlainVolume}
 use Rattle.plain_disk.proofs.CheckpointLemmas.{some_owns, owns_some}
 use Rattle.object_recovery.specs.Checkpoints.{expected_of}
+use Rattle.object_recovery.specs.Table.{HasPayloadThere}
+use Rattle.object_recovery.proofs.LivePayloads.{live_payload}
+use Rattle.obj_log.specs.State.{ObjLogState}
 use Rattle.refine_objects.specs.Table.{passes_unmapped, ShowsTable}
-use Rattle.refine_objects.proofs.TableLemmas.{same_table, room_shows_same_table, added_shows_table}
-use Rattle.refine_mount.specs.Mounted.{going_on}
+use Rattle.refine_objects.proofs.PayloadsOf.{payload_with_entries}
+use Rattle.refine_objects.proofs.TableLemmas.{HasTableOf, same_table}
+use Rattle.refine_mount.specs.Mounted.{end_of_object, mounted_without, going_on, AddsEntries}
+use Rattle.refine_mount.proofs.CutPayloads.{payload_of_cut}
 use Rattle.refine_mount.specs.Laws.{RecoveredShowsTable, EntriesKeepTable}
 
 -- ---- what was recovered
@@ -32,6 +39,12 @@ pub none_pinned : (rows : List ObjectRow) (number : ℕ) (found : Option ObjectR
     → All (λ (row : ObjectRow). row.pins ≡ 0) rows → pins_of found ≡ 0
 none_pinned rows number None is none = refl
 none_pinned rows number (Some row) is none = found_holds (λ (row : ObjectRow). row.pins ≡ 0) number rows row is none
+
+-- nor is one copied by a plan
+pub none_copied : (rows : List ObjectRow) (number : ℕ) (found : Option ObjectRow) → row_of number rows ≡ found
+    → All (λ (row : ObjectRow). row.is_copied ≡ false) rows → IfSome found (λ (row : ObjectRow). row.is_copied ≡ false)
+none_copied rows number None is none = tt
+none_copied rows number (Some row) is none = found_holds (λ (row : ObjectRow). row.is_copied ≡ false) number rows row is none
 
 -- a checkpoint maps no object that owns none of its sectors, and the other way
 unowned_unmapped : (checkpoint : PlainCheckpoint) (number : ℕ)
@@ -94,8 +107,16 @@ opened_holds plain valid opened k =
     valid.checkpoint.holds (omega (arith, opened)) k
     ∙ ap (λ (n : ℕ). after_objects plain.number plain.end plain.entries (stream_in plain).opening (take n plain.objects) k) none
 
+-- what is known of the payload of a row that has a live sector is what the volume says
+row_payload : (There : ℕ → Type 0) (found : Option ObjectRow) (payload : ℕ)
+    → IfSome found (λ (row : ObjectRow). 0 < row.live → There row.payload)
+    → ((row : ObjectRow) → found ≡ Some row → There row.payload → row.payload ≡ payload)
+    → IfSome found (λ (row : ObjectRow). 0 < row.live → row.payload ≡ payload)
+row_payload There None payload known same = tt
+row_payload There (Some row) payload known same = λ live. same row refl (known live)
+
 pub recovered_shows_table : RecoveredShowsTable
-recovered_shows_table uuid size plain number objects log valid has list last table knows =
+recovered_shows_table uuid size plain number objects log valid has list last order table knows =
     let rows = log.uploads.queue.maps.objects.rows in
     let stream = stream_in plain in
     let first = subst (λ n. IsCheckpointOf (expected_of uuid plain.geometry) objects n stream.end stream.opening) (sym has.opened)
@@ -108,31 +129,59 @@ recovered_shows_table uuid size plain number objects log valid has list last tab
       unmapped = λ other. row_told plain.checkpoint stream.opening other (row_of other rows) (opened_holds plain valid has.opened)
           (knows.unmapped stream.end stream.opening first other);
       pins = λ other. none_pinned rows other (row_of other rows) refl table.unpinned;
+      copied = λ other. none_copied rows other (row_of other rows) refl table.not_copied;
+      payload = λ other.
+          row_payload (HasPayloadThere (expected_of uuid plain.geometry) objects other) (row_of other rows)
+          (payload_of (mounted_without size number plain) other)
+          (live_payload log.uploads.uuid (expected_of uuid plain.geometry) objects plain.checkpoint.number log.uploads.queue
+          order.known knows other)
+          (λ row at there.
+          let within = found_holds (λ (r : ObjectRow). r.number ≤ log.uploads.queue.frontier) other rows row at order.known.within
+          in
+          let low : other ≤ number =
+          omega (arith, within, its_number other rows row at, list.frontier, last) in
+          has.payloads other row.payload low there
+          ∙ sym (payload_of_cut plain number (end_of_object number plain) other valid
+          (omega (arith, has.stored.stored.base, has.stored.stored.missing.above)) has.stored.stored.last (omega arith) low));
       free = tt;
       gone = All-weaker (IsUnneeded plain.checkpoint) (λ other. other < plain.checkpoint.number)
           (λ other unneeded. unneeded.before) plain.removed
           (subst (All (IsUnneeded plain.checkpoint)) has.gone valid.checkpoint.unneeded);
+      reached = tt;
     }
 
 -- ---- entries more
 
--- a table does not tell entries
-still_shown : (queue : QueueState) (plain : PlainState) (entries : List Entry) (log : PlainLog) → ShowsTable queue plain
-    → ShowsTable queue (record plain { entries = entries; cache = cache_with log })
-still_shown queue plain entries log shows =
-    same_table queue queue plain (record plain { entries = entries; cache = cache_with log })
-    (record { frontier = refl; rows = refl; checkpoint = refl; removal = refl })
-    (record { checkpoint = refl; removal = refl; removed = refl; pins = refl }) shows
+-- the table of a list does not change while entries are added
+adds_keep : (data_at : ℕ → ℕ) (entries : List Entry) (old new : ObjLogState) → AddsEntries data_at entries old new
+    → HasTableOf old.uploads.queue new.uploads.queue
+adds_keep data_at [] old new same =
+    let settled = same.uploads.settled in
+    record {
+      frontier = settled.frontier;
+      rows = settled.places.objects;
+      checkpoint = settled.places.checkpoint;
+      removal = settled.removal;
+    }
+adds_keep data_at (entry ∷ entries) old new adds =
+    let settled = adds.2.uploads.settled in
+    let e = adds.4.entered in
+    let rest = adds_keep data_at entries adds.1 new adds.5 in
+    record {
+      frontier = rest.frontier ∙ (e.frontier ∙ settled.frontier);
+      rows = rest.rows ∙ (ap (λ (t : TableState). t.rows) e.objects ∙ settled.places.objects);
+      checkpoint = rest.checkpoint ∙ (ap (λ (t : TableState). t.checkpoint) e.objects ∙ settled.places.checkpoint);
+      removal = rest.removal ∙ (e.removal ∙ settled.removal);
+    }
 
 pub entries_keep_table : EntriesKeepTable
-entries_keep_table data_at plain [] log old new shows same =
-    still_shown new.uploads.queue plain (plain.entries ++ []) log (room_shows_same_table old new plain same shows)
-entries_keep_table data_at plain (entry ∷ entries) log old new shows adds =
-    let ready = room_shows_same_table old adds.0 plain adds.2 shows in
-    let more : PlainState = record plain { entries = plain.entries ++ entry ∷ [] } in
-    let at = data_at (adds.0.batch.first + length adds.0.batch.entries) in
-    let added : ShowsTable adds.1.uploads.queue more = added_shows_table adds.0 adds.1 plain entry at adds.4 ready in
-    let rest = entries_keep_table data_at more entries log adds.1 new added adds.5 in
-    same_table new.uploads.queue new.uploads.queue (going_on entries log more) (going_on (entry ∷ entries) log plain)
-    (record { frontier = refl; rows = refl; checkpoint = refl; removal = refl })
-    (record { checkpoint = refl; removal = refl; removed = refl; pins = refl }) rest
+entries_keep_table data_at plain entries log old new valid shows adds =
+    same_table old.uploads.queue new.uploads.queue plain (going_on entries log plain) (adds_keep data_at entries old new adds)
+    (record {
+      checkpoint = refl;
+      removal = refl;
+      removed = refl;
+      pins = refl;
+      plan = refl;
+      payloads = λ number row is. payload_with_entries plain entries number valid;
+    }) shows

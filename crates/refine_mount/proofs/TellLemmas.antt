@@ -25,7 +25,8 @@ use Rattle.object_uploads.specs.Queue.{stored_at}
 use Rattle.object_uploads.specs.Order.{UnmappedAreDead, AreKnown}
 use Rattle.object_uploads.proofs.DeadLemmas.{nowhere, none_live}
 use Rattle.plain_disk.proofs.CheckpointLemmas.{both_true, same_number, some_owns, owns_some}
-use Rattle.object_recovery.specs.Places.{IsInsideObject, HasPlacesInside}
+use Rattle.object_uploads.specs.Collection.{IsInsideObject}
+use Rattle.object_recovery.specs.Places.{HasPlacesInside}
 use Rattle.object_recovery.specs.Table.{HasTableFrom}
 use Rattle.refine_mount.proofs.MissingLemmas.{not_there}
 

@@ -2,22 +2,26 @@
 use Rattle.std.specs.Prelude.{◌≡◌, ℕ, ◌≤◌, not, Option, None, List, []}
 use Rattle.lsvd_objstore.specs.Objects.{Objects}
 use Rattle.stopped_volume.specs.Objects.{landed_in}
-use Rattle.plain_disk.specs.State.{PlainState, stream_in}
+use Rattle.plain_disk.specs.State.{PlainState, stream_in, payload_of}
 use Rattle.plain_disk.specs.Removals.{has}
 use Rattle.object_recovery.specs.Checkpoints.{expected_of}
 use Rattle.object_recovery.specs.Recovery.{HasDataUpTo}
+use Rattle.object_recovery.specs.Table.{HasPayloadThere}
 
 -- A store has the objects of a plain volume as a mount finds them: the volume opens at its newest checkpoint, all its objects, up
--- to one of this number, are acknowledged, no removal is out, nothing is pinned, and those that were given out for removal are
--- removed. The store has each object from 1 on but these, and the stream from the checkpoint on up to that number, which is the
--- one before the first missing number.
+-- to one of this number, are acknowledged, no removal and no plan of a copy is out, nothing is pinned, and those that were given
+-- out for removal are removed. The store has each object from 1 on but these, with the payload that the volume knows, and the
+-- stream from the checkpoint on up to that number, which is the one before the first missing number.
 pub record HasObjects (uuid : List ℕ) (plain : PlainState) (number : ℕ) (objects : Objects) : Type 0 where
   pub uuid_at : ℕ → Option (List ℕ)
   pub opened : plain.checkpoint.number ≡ plain.number
   pub window : plain.window ≡ record { last = number; objects = [] }
   pub pins : plain.pins ≡ []
   pub none_out : plain.removal ≡ None
+  pub no_plan : plain.plan ≡ None
   pub gone : plain.given_out ≡ plain.removed
   pub present : (other : ℕ) → 1 ≤ other → other ≤ number
       → landed_in objects (expected_of uuid plain.geometry) other ≡ not (has plain.removed other)
+  pub payloads : (other payload : ℕ) → other ≤ number → HasPayloadThere (expected_of uuid plain.geometry) objects other payload
+      → payload ≡ payload_of plain other
   pub stored : HasDataUpTo (expected_of uuid plain.geometry) uuid_at objects (stream_in plain) plain.opening number

@@ -93,7 +93,7 @@ RecoveredShowsTable =
     (uuid : List ℕ) (size : ℕ) (plain : PlainState) (number : ℕ) (objects : Objects) (log : ObjLogState)
     → IsPlainVolume plain → HasObjects uuid plain number objects
     → IsListUpTo uuid (sizes_with size plain.geometry) log.uploads.window.last log.uploads.queue.end log
-    → log.uploads.window.last ≡ number → HasTableFrom plain.checkpoint.number log.uploads.queue
+    → log.uploads.window.last ≡ number → IsUploads log.uploads → HasTableFrom plain.checkpoint.number log.uploads.queue
     → KnowsObjects (expected_of uuid plain.geometry) objects plain.checkpoint.number log.uploads.queue
     → ShowsTable log.uploads.queue (mounted_without size number plain)
 
@@ -119,7 +119,7 @@ EntriesGoOn =
 abbrev pub EntriesKeepTable : Type 0
 EntriesKeepTable =
     (data_at : ℕ → ℕ) (plain : PlainState) (entries : List Entry) (log : PlainLog) (old new : ObjLogState)
-    → ShowsTable old.uploads.queue plain → AddsEntries data_at entries old new
+    → IsPlainVolume plain → ShowsTable old.uploads.queue plain → AddsEntries data_at entries old new
     → ShowsTable new.uploads.queue (going_on entries log plain)
 
 -- ---- the log

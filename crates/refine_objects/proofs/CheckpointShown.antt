@@ -13,7 +13,7 @@ use Rattle.object_uploads.specs.declared.rows.SealedRows.TheVariants as sealed_r
 use Rattle.object_uploads.specs.Queue.{end_of_last}
 use Rattle.object_uploads.specs.Order.{IsUploads}
 use Rattle.object_uploads.specs.Checkpoint.{HasSealedCheckpoint}
-use Rattle.object_uploads.specs.Image.{HasImage}
+use Rattle.object_uploads.specs.Image.{HasImage, AreCopied}
 use Rattle.object_uploads.proofs.ImageLemmas.{sealing_keeps_image}
 use Rattle.batcher.specs.State.{BatchState}
 use Rattle.obj_log.specs.State.{ObjLogState}
@@ -26,8 +26,10 @@ use Rattle.plain_disk.specs.Valid.{IsPlainVolume}
 use Rattle.plain_disk.proofs.EndLemmas.{frontier_is_sealed}
 use Rattle.refine_objects.specs.Shows.{settled_image, ShowsObjects}
 use Rattle.refine_objects.specs.TableLaws.{ShowsBoth, SealedShowsSealCheckpoint, RefusedSealCheckpointShowsNone}
+use Rattle.refine_objects.proofs.AlikeLemmas.{sealed_alike}
 use Rattle.refine_objects.proofs.SealLemmas.{below_entered}
-use Rattle.refine_objects.proofs.TableLemmas.{same_table}
+use Rattle.refine_objects.proofs.PayloadsOf.{payload_with_object}
+use Rattle.refine_objects.proofs.TableLemmas.{same_table, row_is_sealed}
 
 -- the plain volume with a checkpoint more, which a seal leaves
 abbrev pub with_checkpoint : PlainState → PlainState
@@ -68,7 +70,7 @@ module _ (data_at : ℕ → ℕ) (old new : ObjLogState) (plain : PlainState) (u
       let was = shows.objects in
       let queue = old.uploads.queue in
       let kept = sealing_keeps_image sealed.bytes sealed_rows.Checkpoint (end_of_last queue.end queue.sealed) old.uploads
-      new.uploads sealed.sealed in
+      new.uploads refl sealed.sealed in
       record {
         geometry = ap (λ (b : BatchState). b.geometry) batch ∙ was.geometry;
         stream = sealing_checkpoint_keeps_stream data_at (stream_in plain) old new uploads was.stream sealed batch;
@@ -76,6 +78,10 @@ module _ (data_at : ℕ → ℕ) (old new : ObjLogState) (plain : PlainState) (u
         image = subst (λ image. HasImage image new.uploads.queue) (sym (image_same plain valid))
             (kept.image (settled_image plain) was.image);
         receipts = kept.receipts was.receipts;
+        copied = λ tells alike.
+            subst (λ image. AreCopied tells image new.uploads.queue) (sym (image_same plain valid))
+            (kept.copies tells (settled_image plain) (was.copied tells
+            (sealed_alike tells sealed.bytes _ _ old.uploads new.uploads sealed.sealed alike)));
       }
 
   both_shown : ShowsBoth data_at new (with_checkpoint plain)
@@ -91,7 +97,17 @@ module _ (data_at : ℕ → ℕ) (old new : ObjLogState) (plain : PlainState) (u
               checkpoint = settled.places.checkpoint;
               removal = settled.removal;
             })
-            (record { checkpoint = refl; removal = refl; removed = refl; pins = refl }) shows.table;
+            (record {
+              checkpoint = refl;
+              removal = refl;
+              removed = refl;
+              pins = refl;
+              plan = refl;
+              payloads = λ number row is.
+                  payload_with_object plain
+                  (record { content = Checkpoint; end = end_at (stream_in plain) (last_number (stream_in plain)) }) number valid
+                  (row_is_sealed data_at old plain uploads valid shows.objects number row is);
+            }) shows.table;
       }
 
 pub sealed_shows_seal_checkpoint : SealedShowsSealCheckpoint

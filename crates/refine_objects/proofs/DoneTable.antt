@@ -1,7 +1,8 @@
 -- A put that is done leaves a table that shows the plain volume then.
-use Rattle.std.proofs.Common.{◌≡◌, ℕ, ◌+◌, ◌-◌, ◌≤◌, not, Bool, true, false, cond, Option, Some, None, List, length, take}
+use Rattle.std.proofs.Common.{◌≡◌, ℕ, zero, suc, ◌+◌, ◌-◌, ◌<◌, ◌≤◌, not, Bool, true}
+use Rattle.std.proofs.Common.{false, cond, Option, Some, None, List, [], ◌∷◌, length, take}
 use Rattle.std.proofs.Common.{get_or, refl, sym, ◌∙◌, ap, subst, arith}
-use Rattle.std.specs.Prelude.{nat_eq}
+use Rattle.std.specs.Prelude.{IfSome, nat_eq}
 use Rattle.std.proofs.lemmas.Bool.Decides.{nat_tests}
 use Rattle.std.proofs.lemmas.List.{length-take-le}
 use Rattle.lsvd_objstore.specs.Store.{ReceiptState}
@@ -14,21 +15,25 @@ use Rattle.object_table.specs.Table.{row_of}
 use Rattle.object_table.proofs.Rows.{its_number}
 use Rattle.object_table.proofs.Listed.{found_holds}
 use Rattle.volume_maps.specs.declared.place.ObjectPlace.{ObjectPlace}
-use Rattle.volume_maps.specs.Maps.{settled_at}
+use Rattle.extent_map.specs.Extents.{place_at}
+use Rattle.volume_maps.specs.Places.{object_on}
+use Rattle.volume_maps.specs.Maps.{MapsState, settled_at}
 use Rattle.volume_maps.specs.Laws.{place_owner}
 use Rattle.volume_maps.specs.Live.{is_live, live_sectors}
 use Rattle.object_uploads.specs.State.{SealedState, QueueState, UploadsState}
-use Rattle.object_uploads.specs.Queue.{with_at, with_receipt, FirstWaits}
+use Rattle.object_uploads.specs.declared.rows.SealedRows.{SealedRows}
+use Rattle.object_uploads.specs.declared.rows.SealedRows.TheVariants as sealed_rows
+use Rattle.object_uploads.specs.Queue.{with_at, with_receipt, FirstWaits, SettlesSealed, SettlesObjects}
 use Rattle.object_uploads.specs.Order.{IsUploads}
 use Rattle.object_uploads.specs.Changes.{index_of, IsOut, IsPutDone}
 use Rattle.object_uploads.specs.Stream.{AreSealedOf}
 use Rattle.object_uploads.proofs.KeepLemmas.{settle_all}
 use Rattle.object_uploads.proofs.OpenLemmas.{started_at}
-use Rattle.object_uploads.proofs.DeadLemmas.{nowhere, none_live}
+use Rattle.object_uploads.proofs.DeadLemmas.{nowhere, none_live, data_gives, copy_gives}
 use Rattle.obj_log.specs.State.{ObjLogState}
 use Rattle.obj_log.specs.Changes.{expected_of_volume}
 use Rattle.obj_log.specs.Stream.{IsOfStream}
-use Rattle.plain_disk.specs.State.{PlainState, PlainCheckpoint, stream_in}
+use Rattle.plain_disk.specs.State.{PlainState, PlainCheckpoint, stream_in, payload_of}
 use Rattle.plain_disk.specs.Checkpoints.{checkpoint_at, is_started_checkpoint}
 use Rattle.plain_disk.specs.Objects.{window_after_done}
 use Rattle.plain_disk.specs.Removals.{maps}
@@ -38,9 +43,11 @@ use Rattle.plain_disk.proofs.CheckpointLemmas.{some_owns, owns_some, started_is_
 use Rattle.refine_objects.specs.Table.{ShowsTable}
 use Rattle.refine_objects.specs.TableLaws.{ShowsBoth, DoneShowsTable}
 use Rattle.refine_objects.proofs.ShowLemmas.{shown_have_counts}
-use Rattle.refine_objects.proofs.TableRows.{RowsShow, MapsLive, rows_of_shown, shown_by_rows}
+use Rattle.refine_objects.proofs.PayloadLemmas.{payloads_shown}
+use Rattle.refine_objects.proofs.TableRows.{RowsShow, MapsLive, HaveLive, LiveAre}
+use Rattle.refine_objects.proofs.TableRows.{seen_of, with_newest, rows_of_shown, shown_by_rows}
 use Rattle.refine_objects.proofs.SettledRows.{settle_data, waiting_taken, still_waiting, FirstIsCheckpoint, first_is_checkpoint}
-use Rattle.refine_objects.proofs.SettledRows.{places_stay, settle_first}
+use Rattle.refine_objects.proofs.SettledRows.{HavePayloads, payloads_taken, payloads_given, places_stay, settle_first}
 
 -- ---- what a checkpoint maps
 
@@ -126,10 +133,53 @@ module _ (uploads : UploadsState) (plain : PlainState) (number : ℕ) (is : IsUp
   pub maps_live : (n : ℕ) → MapsLive checkpoint n (row_of n uploads.queue.maps.objects.rows)
   maps_live n = live_by n (row_of n uploads.queue.maps.objects.rows) refl
 
+-- ---- which objects have live sectors then
+
+-- an object without one gains none by the settling of later ones
+settled_nowhere : (n number size : ℕ) (rows : SealedRows) (end : ℕ) (old new : MapsState) → n ≤ number
+    → SettlesSealed (number + 1) size rows end old new → ((k : ℕ) → is_live n (settled_at old k) ≡ false)
+    → (k : ℕ) → is_live n (settled_at new k) ≡ false
+settled_nowhere n number size (sealed_rows.Data list) end old new low settles none k =
+    ap (is_live n) (settles.settled k)
+    ∙ data_gives (number + 1) list.items n (settled_at old k) k (λ same. omega (arith, same, low)) (none k)
+settled_nowhere n number size (sealed_rows.Copy list) end old new low settles none k =
+    ap (is_live n) (settles.settled k)
+    ∙ copy_gives (number + 1) list.items n (settled_at old k) k (λ same. omega (arith, same, low)) (none k)
+settled_nowhere n number size sealed_rows.Checkpoint end old new low settles none k =
+    ap (λ m. is_live n (place_at object_on m.rows k)) settles.settled ∙ none k
+
+all_nowhere : (n number : ℕ) (list : List SealedState) (old new : MapsState) → n ≤ number → SettlesObjects number list old new
+    → ((k : ℕ) → is_live n (settled_at old k) ≡ false) → (k : ℕ) → is_live n (settled_at new k) ≡ false
+all_nowhere n number [] old new low settles none k = ap (λ m. is_live n (settled_at m k)) settles ∙ none k
+all_nowhere n number (first ∷ list) old new low settles none k =
+    all_nowhere n (number + 1) list settles.0 new (omega (arith, low)) settles.2
+    (settled_nowhere n number (length first.bytes) first.rows first.end old settles.0 low settles.1 none) k
+
+module _ (uploads : UploadsState) (is : IsUploads uploads) where
+  abbrev live_now : ℕ → ℕ
+  live_now n = live_sectors n uploads.queue.maps.settled.rows
+
+  counted_row : (n : ℕ) (row : ObjectRow) → row_of n uploads.queue.maps.objects.rows ≡ Some row → row.live ≡ live_now n
+  counted_row n row at =
+      let rows = uploads.queue.maps.objects.rows in
+      found_holds (λ (r : ObjectRow). r.live ≡ live_sectors r.number uploads.queue.maps.settled.rows) n rows row at
+      is.known.counted.live
+      ∙ ap (λ m. live_now m) (its_number n rows row at)
+
+  live_are_by : (n : ℕ) (found : Option ObjectRow) → row_of n uploads.queue.maps.objects.rows ≡ found
+      → IfSome found (λ row. 0 < row.live → 0 < live_now n)
+  live_are_by n None at = tt
+  live_are_by n (Some row) at = λ some. subst (λ count. 0 < count) (counted_row n row at) some
+
+  -- each row counts those of its object
+  live_are : LiveAre live_now uploads.queue.maps.objects.rows
+  live_are n = live_are_by n (row_of n uploads.queue.maps.objects.rows) refl
+
 -- ---- the put is done
 
 module _ (data_at : ℕ → ℕ) (old new : ObjLogState) (plain : PlainState) (number : ℕ) (bytes : List ℕ) (receipt : ReceiptState)
-    (is : IsUploads old.uploads) (valid : IsPlainVolume plain) (shows : ShowsBoth data_at old plain)
+    (is : IsUploads old.uploads) (now_is : IsUploads new.uploads) (valid : IsPlainVolume plain)
+    (shows : ShowsBoth data_at old plain)
     (out : IsOut old.uploads number bytes) (done : IsPutDone number receipt old.uploads new.uploads) where
   abbrev queue : QueueState
   queue = old.uploads.queue
@@ -143,21 +193,54 @@ module _ (data_at : ℕ → ℕ) (old new : ObjLogState) (plain : PlainState) (n
   reached : new.uploads.queue.frontier ≡ queue.frontier + length (take done.count given)
   reached = let size = length-take-le done.count given done.settled.within in omega (arith, size, done.settled.frontier)
 
-  before : RowsShow plain.checkpoint plain.removed plain.pins queue.frontier queue.maps.objects
-  before = rows_of_shown old.uploads plain is shows.table
+  -- an object that has a live sector then had one before
+  abbrev live : ℕ → ℕ
+  live = live_now new.uploads now_is
+
+  had_live : (n : ℕ) (row : ObjectRow) (count : ℕ) → row_of n queue.maps.objects.rows ≡ Some row → row.live ≡ count
+      → 0 < live n → 0 < row.live
+  had_live n row (suc count) at counted some = omega (arith, counted)
+  had_live n row zero at counted some =
+      let rows = queue.maps.objects.rows in
+      let low : n ≤ queue.frontier =
+      subst (λ m. m ≤ queue.frontier) (its_number n rows row at)
+      (found_holds (λ (r : ObjectRow). r.number ≤ queue.frontier) n rows row at is.known.within) in
+      let none : live_sectors n queue.maps.settled.rows ≡ 0 = sym (counted_row old.uploads is n row at) ∙ counted in
+      let later = all_nowhere n queue.frontier (take done.count given) queue.maps new.uploads.queue.maps low done.settled.maps
+      (λ k. nowhere n queue.maps.settled.rows k none) in
+      let still : live n ≡ 0 = none_live n new.uploads.queue.maps.settled.rows now_is.known.shortest later in
+      absurd (omega (arith, still, some))
+
+  have_live_by : (n : ℕ) (found : Option ObjectRow) → row_of n queue.maps.objects.rows ≡ found
+      → IfSome found (λ row. 0 < live n → 0 < row.live)
+  have_live_by n None at = tt
+  have_live_by n (Some row) at = λ some. had_live n row row.live at refl some
+
+  have_live : HaveLive live queue.maps.objects.rows
+  have_live n = have_live_by n (row_of n queue.maps.objects.rows) refl
+
+  before : RowsShow (seen_of live plain) queue.frontier queue.maps.objects
+  before = rows_of_shown live old.uploads plain is have_live shows.table
+
+  -- the objects past the old frontier have their payload
+  have_payloads : HavePayloads (payload_of plain) queue.frontier queue.sealed
+  have_payloads = payloads_shown data_at old plain is valid shows.objects
 
   data_rows : is_started_checkpoint number old.uploads.window.objects ≡ false
-      → RowsShow plain.checkpoint plain.removed plain.pins new.uploads.queue.frontier new.uploads.queue.maps.objects
+      → RowsShow (seen_of live plain) new.uploads.queue.frontier new.uploads.queue.maps.objects
   data_rows other =
       let found = started_at number (queue.frontier + 1) queue.sealed old.uploads.window.objects is.opened out.started in
       let at : number ≡ queue.frontier + 1 + index = omega (arith, found.0) in
       let waiting = still_waiting number receipt (queue.frontier + 1) index queue.sealed old.uploads.window.objects is.opened at
       found.1 other is.waiting in
-      rw reached (settle_data plain.checkpoint plain.removed plain.pins queue.frontier (take done.count given) queue.maps
-      new.uploads.queue.maps done.settled.acknowledged (waiting_taken done.count given waiting) done.settled.maps before)
+      let have = payloads_taken (payload_of plain) queue.frontier done.count given
+      (payloads_given (payload_of plain) queue.frontier index receipt queue.sealed have_payloads) in
+      rw reached (settle_data (seen_of live plain) queue.frontier (take done.count given) queue.maps
+      new.uploads.queue.maps done.settled.acknowledged (waiting_taken done.count given waiting) have done.settled.maps before)
 
   checkpoint_rows : is_started_checkpoint number old.uploads.window.objects ≡ true
-      → RowsShow (checkpoint_at number plain) plain.removed plain.pins new.uploads.queue.frontier new.uploads.queue.maps.objects
+      → RowsShow (with_newest (checkpoint_at number plain) (seen_of live plain)) new.uploads.queue.frontier
+      new.uploads.queue.maps.objects
   checkpoint_rows own =
       let stream = stream_in plain in
       let plain_own : is_started_checkpoint number plain.window.objects ≡ true =
@@ -174,9 +257,9 @@ module _ (data_at : ℕ → ℕ) (old new : ObjLogState) (plain : PlainState) (n
       owners_then data_at stream old is shows.objects.stream first k
       ∙ ap (λ n. owners stream n k) (sym at) in
       let waits = subst FirstWaits done.settled.sealed done.waits in
-      rw reached (rw first_at (settle_first plain.checkpoint (checkpoint_at number plain) plain.removed plain.pins queue.frontier
+      rw reached (rw first_at (settle_first (seen_of live plain) (checkpoint_at number plain) queue.frontier
       done.count receipt queue.sealed queue.maps new.uploads.queue.maps first (rw first_at at waits)
-      (rw first_at at done.settled.acknowledged) is.waiting (rw first_at at done.settled.maps) at
+      (rw first_at at done.settled.acknowledged) is.waiting have_payloads (rw first_at at done.settled.maps) at
       (maps_live old.uploads plain number is valid owned) before))
 
   done_by : (checkpoint : Bool) → is_started_checkpoint number old.uploads.window.objects ≡ checkpoint
@@ -189,13 +272,15 @@ module _ (data_at : ℕ → ℕ) (old new : ObjLogState) (plain : PlainState) (n
         window = window_after_done (Some number) plain.window;
         checkpoint = checkpoint_at number plain;
       } in
-      shown_by_rows new.uploads.queue now (done.settled.removal ∙ shows.table.removal) shows.table.free (checkpoint_rows own)
+      shown_by_rows live new.uploads.queue now (done.settled.removal ∙ shows.table.removal) shows.table.free
+      (live_are new.uploads now_is) (checkpoint_rows own)
   done_by false other =
       let now : PlainState = record plain { window = window_after_done (Some number) plain.window } in
-      shown_by_rows new.uploads.queue now (done.settled.removal ∙ shows.table.removal) shows.table.free (data_rows other)
+      shown_by_rows live new.uploads.queue now (done.settled.removal ∙ shows.table.removal) shows.table.free
+      (live_are new.uploads now_is) (data_rows other)
 
 pub done_shows_table : DoneShowsTable
 done_shows_table data_at old new plain number bytes receipt is now valid shows out done =
-    done_by data_at old new plain number bytes receipt is valid shows out done
+    done_by data_at old new plain number bytes receipt is now valid shows out done
     (is_started_checkpoint number plain.window.objects)
     (ap (λ (w : WindowState). is_started_checkpoint number w.objects) shows.objects.window)

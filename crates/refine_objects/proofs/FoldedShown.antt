@@ -3,24 +3,26 @@ use Rattle.std.proofs.Common.{◌≡◌, ℕ, ◌+◌, ◌-◌, ◌<◌, ◌≤�
 use Rattle.std.proofs.Common.{sym, ◌∙◌, ap, subst, arith}
 use Rattle.std.proofs.Math.Seq.{take-add}
 use Rattle.std.proofs.lemmas.Bool.{cases_lt}
+use Rattle.std.specs.List.{slice_get}
 use Rattle.std.proofs.lemmas.List.{drop-drop}
 use Rattle.lsvd_base.specs.declared.entry.Entry.{Entry}
 use Rattle.lsvd_base.specs.Image.{Image, after}
 use Rattle.lsvd_base.proofs.SectorLemmas.{applies_in_parts}
 use Rattle.object_stream.specs.declared.object.StreamObject.{StreamObject}
-use Rattle.object_stream.specs.Changes.{place_in_payload}
 use Rattle.object_stream.specs.Stream.{Stream, Owners, owners, end_at, entries_in_object}
 use Rattle.object_stream.specs.Laws.{from_object}
 use Rattle.volume_maps.specs.declared.place.ObjectPlace.{ObjectPlace}
 use Rattle.volume_maps.specs.Places.{left_at}
 use Rattle.volume_maps.specs.Maps.{settled_at}
 use Rattle.object_uploads.specs.State.{SealedState, QueueState}
-use Rattle.object_uploads.specs.Image.{HasImage}
-use Rattle.object_uploads.specs.Stream.{IsPlacedIn, AreSealedOf, AreOfStream}
+use Rattle.object_uploads.specs.Image.{HasImage, AreCopied}
+use Rattle.object_uploads.specs.Stream.{object_at, IsPlacedIn, AreSealedOf, AreOfStream}
+use Rattle.object_uploads.proofs.PlacedLemmas.{IsPlaceIn}
 use Rattle.obj_log.specs.State.{ObjLogState}
 use Rattle.obj_log.specs.Changes.{expected_of_volume}
 use Rattle.plain_disk.specs.State.{PlainState, stream_in, frontier_of, frontier_end, folded_to}
 use Rattle.plain_disk.proofs.EndLemmas.{ends_grow}
+use Rattle.plain_disk.proofs.FoundStreamLemmas.{slice_of_drop}
 use Rattle.plain_disk.proofs.FoldLemmas.{MayFold, fold_from, owners_of_fold, ends_of_fold, last_of_fold, frontier_end_of_fold}
 use Rattle.plain_disk.proofs.FoldLemmas.{entries_of_fold, unsealed_of_fold, last_end_of_fold}
 use Rattle.refine_objects.specs.Shows.{settled_image}
@@ -40,7 +42,13 @@ module _ (plain : PlainState) (number : ℕ) (h : MayFold plain number) where
   abbrev folded : Stream
   folded = stream_in (folded_to number plain)
 
-  -- an object past those that were folded has the same entries
+  -- an object past those that were folded is the same
+  same_of_fold : (other : ℕ) → number < other → object_at folded other ≡ object_at stream other
+  same_of_fold other past =
+      let index : number - plain.number + (other - (number + 1)) ≡ other - (plain.number + 1) = omega (arith, past, h.from) in
+      slice_of_drop (number - plain.number) (other - (number + 1)) plain.objects ∙ ap (slice_get plain.objects) index
+
+  -- and has the same entries
   object_of_fold : (other : ℕ) → number < other → entries_in_object folded other ≡ entries_in_object stream other
   object_of_fold other past =
       let before : end_at folded (other - 1) ≡ end_at stream (other - 1) =
@@ -59,8 +67,10 @@ module _ (plain : PlainState) (number : ℕ) (h : MayFold plain number) where
   placed_by k None first later = tt
   placed_by k (Some place) first later = λ own past.
       elim (cases_lt number place.number) [
-        | inl above ↦ later own above
-            ∙ ap (λ (entries : List Entry). place_in_payload entries k) (object_of_fold place.number above)
+        | inl above ↦
+            subst (λ o. IsPlaceIn place.sector k (entries_in_object stream place.number) o) (same_of_fold place.number above)
+            (subst (λ (entries : List Entry). IsPlaceIn place.sector k entries (object_at folded place.number))
+            (object_of_fold place.number above) (later own above))
         | inr low ↦ first low own past
       ]
 
@@ -134,4 +144,6 @@ shown_from_first data_at list plain number valid from to none first shows =
       window = shows.window;
       image = subst (λ (image : Image). HasImage image queue) (image_of_fold plain number h) shows.image;
       receipts = shows.receipts;
+      copied = λ tells alike.
+          subst (λ (image : Image). AreCopied tells image queue) (image_of_fold plain number h) (shows.copied tells alike);
     }

@@ -18,7 +18,7 @@ use Rattle.object_stream.specs.Stream.{end_at}
 use Rattle.object_stream.proofs.ValueLemmas.{length-after}
 use Rattle.object_uploads.specs.Changes.{with_job, IsOut, IsPutDone}
 use Rattle.object_uploads.specs.Order.{IsUploads}
-use Rattle.object_uploads.specs.Image.{IsReceiptFor, HasImage}
+use Rattle.object_uploads.specs.Image.{IsReceiptFor, HasImage, HasOwnReceipts, TellAlike, AreCopied}
 use Rattle.object_uploads.specs.ImageLaws.{settled_entries}
 use Rattle.batcher.specs.State.{BatchState}
 use Rattle.obj_log.specs.State.{ObjLogState}
@@ -31,8 +31,9 @@ use Rattle.plain_disk.specs.Objects.{window_after_take}
 use Rattle.plain_disk.specs.Valid.{IsPlainVolume}
 use Rattle.plain_disk.proofs.Overlaid.{EndsBy-in_range}
 use Rattle.plain_disk.proofs.EndLemmas.{ends_from, ends_grow}
-use Rattle.refine_objects.specs.Shows.{settled_image, ShowsObjects}
+use Rattle.refine_objects.specs.Shows.{settled_image, TellsAsOne, ShowsObjects}
 use Rattle.refine_objects.specs.Laws.{TakenShowsTake, FailedShowsFailed, DoneShowsDone}
+use Rattle.refine_objects.proofs.AlikeLemmas.{job_alike, done_alike}
 use Rattle.refine_objects.proofs.ShowLemmas.{shown_have_counts}
 use Rattle.refine_objects.proofs.FrontierLemmas.{below_done}
 
@@ -76,6 +77,10 @@ job_shows data_at objects plain number started shows =
           subst (λ image. HasImage image (with_job number started objects.uploads).queue) (sym same)
           (kept.image (settled_image plain) shows.image);
       receipts = kept.receipts shows.receipts;
+      copied = λ tells alike.
+          subst (λ image. AreCopied tells image (with_job number started objects.uploads).queue) (sym same)
+          (kept.copies tells (settled_image plain)
+          (shows.copied tells (job_alike tells started number objects.uploads alike)));
     }
 
 pub taken_shows_take : TakenShowsTake
@@ -109,7 +114,7 @@ module _ (plain : PlainState) (valid : IsPlainVolume plain) where
       let g = plain.geometry in
       All-weaker (λ entry. is_in_range g entry ≡ true) (EndsBy g.sectors) (EndsBy-in_range g) plain.entries valid.in_range
 
-  settled_size : length (settled_image plain) ≡ plain.geometry.sectors
+  pub settled_size : length (settled_image plain) ≡ plain.geometry.sectors
   settled_size =
       let some = All-take (EndsBy plain.geometry.sectors) (frontier_end plain - plain.end) plain.entries all_end in
       length-after plain.opening (take (frontier_end plain - plain.end) plain.entries)
@@ -120,7 +125,7 @@ module _ (data_at : ℕ → ℕ) (old new : ObjLogState) (plain : PlainState) (n
     (uploads : IsUploads old.uploads) (valid : IsPlainVolume plain)
     (shows : ShowsObjects data_at old plain)
     (out : IsOut old.uploads number bytes) (tells : IsReceiptFor bytes receipt)
-    (done : IsPutDone number receipt old.uploads new.uploads)
+    (done : IsPutDone number receipt old.uploads new.uploads) (one : TellsAsOne new.uploads.queue)
     (batch : new.batch ≡ old.batch) where
   abbrev later : ℕ
   later = below_open (acknowledged number plain.window)
@@ -176,19 +181,32 @@ module _ (data_at : ℕ → ℕ) (old new : ObjLogState) (plain : PlainState) (n
       (sym (settled_size plain valid))
       (subst (All (EndsBy sectors)) (sym part_is) ends)
 
+  -- the copies past the old frontier, by what the receipts tell then
+  were_copied : (told : Bool) → TellAlike told new.uploads.queue → AreCopied told (settled_image plain) old.uploads.queue
+  were_copied told alike =
+      shows.copied told (done_alike told number receipt old.uploads new.uploads uploads out.started done alike)
+
+  made : (told : Bool) → TellAlike told new.uploads.queue
+      → HasImage (after (settled_image plain) (settled_entries (stream_in plain) old.uploads.queue new.uploads.queue))
+      new.uploads.queue
+      × HasOwnReceipts new.uploads.queue
+      × AreCopied told (after (settled_image plain) (settled_entries (stream_in plain) old.uploads.queue new.uploads.queue))
+      new.uploads.queue
+  made told alike =
+      done_makes_image data_at (stream_in plain) old new number bytes receipt told (settled_image plain) uploads shows.stream
+      done out tells shows.receipts alike part_ends shows.image (were_copied told alike)
+
   done_shown : ShowsObjects data_at new (with_window (acknowledged number plain.window) plain)
   done_shown =
-      let made =
-      done_makes_image data_at (stream_in plain) old new number bytes receipt (settled_image plain) uploads shows.stream
-      done out tells
-      shows.receipts part_ends shows.image in
+      let first_made = made one.0 one.1 in
       let image = ap (after (settled_image plain)) part_is ∙ image_is in
       record {
         geometry = ap (λ (b : BatchState). b.geometry) batch ∙ shows.geometry;
         stream = stream_now;
         window = done.window ∙ ap (acknowledged number) shows.window;
-        image = subst (λ image. HasImage image new.uploads.queue) image made.0;
-        receipts = made.1;
+        image = subst (λ image. HasImage image new.uploads.queue) image first_made.0;
+        receipts = first_made.1;
+        copied = λ told alike. subst (λ image. AreCopied told image new.uploads.queue) image (made told alike).2;
       }
 
 -- it shows the same whichever checkpoint is the newest
@@ -200,13 +218,14 @@ with_other_checkpoint data_at objects plain checkpoint shows = record {
   window = shows.window;
   image = shows.image;
   receipts = shows.receipts;
+  copied = shows.copied;
 }
 
 pub done_shows_done : DoneShowsDone
-done_shows_done data_at old new plain number bytes receipt uploads valid shows out tells done batch =
+done_shows_done data_at old new plain number bytes receipt uploads valid shows out tells done one batch =
     let checkpoint = checkpoint_after_done (Some number) plain in
     let window = ap (λ b. cond b (acknowledged number plain.window) plain.window)
     (under_way data_at old plain number shows out.started) in
     subst (λ (w : WindowState). ShowsObjects data_at new (record plain { window = w; checkpoint = checkpoint })) window
     (with_other_checkpoint data_at new (with_window (acknowledged number plain.window) plain) checkpoint
-    (done_shown data_at old new plain number bytes receipt uploads valid shows out tells done batch))
+    (done_shown data_at old new plain number bytes receipt uploads valid shows out tells done one batch))

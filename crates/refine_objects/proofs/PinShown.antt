@@ -1,5 +1,5 @@
 -- Pins of the table are those of the plain volume.
-use Rattle.std.proofs.Common.{◌≡◌, ℕ, ◌+◌, ◌-◌, ◌==◌, not, Bool, true, false, cond, Option, Some, None, List, []}
+use Rattle.std.proofs.Common.{◌≡◌, ℕ, ◌+◌, ◌-◌, ◌<◌, ◌==◌, not, Bool, true, false, cond, Option, Some, None, List, []}
 use Rattle.std.proofs.Common.{◌∷◌, ◌++◌, refl, sym, ◌∙◌, ap, subst, arith}
 use Rattle.std.specs.Prelude.{IfSome, IsSome, option_map}
 use Rattle.std.specs.List.{list_any}
@@ -7,7 +7,7 @@ use Rattle.std.proofs.lemmas.Bool.Decides.{nat_tests}
 use Rattle.std.proofs.lemmas.List.Sums.{sum_by-cons, sum_by_push}
 use Rattle.object_stream.specs.Stream.{owners, is_own}
 use Rattle.object_table.specs.declared.row.ObjectRow.{ObjectRow}
-use Rattle.object_table.specs.Table.{TableState, row_of, pinned, unpinned}
+use Rattle.object_table.specs.Table.{TableState, row_of, live_in, live_of, pinned, unpinned}
 use Rattle.volume_maps.specs.declared.place.ObjectPlace.{ObjectPlace}
 use Rattle.volume_maps.specs.Maps.{MapsState, settled_at}
 use Rattle.volume_maps.specs.Laws.{place_owner}
@@ -16,13 +16,16 @@ use Rattle.object_uploads.specs.Order.{IsDeadIn}
 use Rattle.object_uploads.proofs.PinsOf.{row_changed}
 use Rattle.object_uploads.proofs.RemovalImage.{pins_keep_image, dead_is_apart}
 use Rattle.plain_disk.specs.Writers.{covers_sector}
-use Rattle.plain_disk.specs.State.{PlainState, PlainCheckpoint, stream_in, frontier_of, logged_entries}
+use Rattle.plain_disk.specs.State.{PlainState, stream_in, frontier_of, logged_entries}
 use Rattle.plain_disk.specs.Reads.{unpinned as without_pin}
 use Rattle.plain_disk.proofs.CheckpointLemmas.{both_true, same_number}
 use Rattle.refine_objects.specs.Table.{times_pinned}
 use Rattle.refine_objects.specs.TableLaws.{PinnedShowsPin, UnpinnedShowsUnpin}
 use Rattle.refine_objects.proofs.ShowLemmas.{shown_have_counts}
-use Rattle.refine_objects.proofs.TableRows.{RowShows, RowsShow, not_past, rows_of_shown, shown_by_rows}
+use Rattle.refine_objects.proofs.AlikeLemmas.{same_alike}
+use Rattle.refine_objects.proofs.TableRows.{TableSeen, seen_of, RowShows, RowsShow}
+use Rattle.refine_objects.proofs.TableRows.{not_past, planned_more, its_live, has_own_live}
+use Rattle.refine_objects.proofs.TableRows.{rows_of_shown, shown_by_rows}
 use Rattle.refine_objects.proofs.TableChanged.{with_others, table_changed}
 
 -- ---- counts
@@ -68,11 +71,26 @@ unpinned_less number other (pin ∷ pins) =
 
 -- ---- what a row shows
 
-module _ (checkpoint : PlainCheckpoint) (removed pins : List ℕ) (frontier number : ℕ) where
+-- what is seen with other pins
+abbrev pub with_pins_seen : List ℕ → TableSeen → TableSeen
+with_pins_seen pins seen = record seen { pins = pins }
+
+-- a change of pins leaves live sectors
+changed_live : (change : ObjectRow → ObjectRow) (test : Bool) (found : Option ObjectRow)
+    → ((row : ObjectRow) → (change row).live ≡ row.live)
+    → IfSome (cond test (option_map change found) found) (λ row. 0 < row.live → 0 < live_in found)
+changed_live change true None same = tt
+changed_live change true (Some row) same = λ some. subst (λ n. 0 < n) (same row) some
+changed_live change false found same = its_live found
+
+module _ (seen : TableSeen) (frontier number : ℕ) where
+  abbrev pins : List ℕ
+  pins = seen.pins
+
   -- the row of a number after one more pin, and one less
   row_pinned : (test : Bool) (n : ℕ) (found : Option ObjectRow) → (number == n) ≡ test → (test ≡ true → IsSome found)
-      → RowShows checkpoint removed pins frontier n found
-      → RowShows checkpoint removed (pins ++ number ∷ []) frontier n (cond test (option_map pinned found) found)
+      → RowShows seen frontier n found
+      → RowShows (with_pins_seen (pins ++ number ∷ []) seen) frontier n (cond test (option_map pinned found) found)
   row_pinned true n None test there shows = let some = there refl in absurd cc
   row_pinned true n (Some row) test there shows =
       let low = not_past frontier n row shows.above in
@@ -83,6 +101,8 @@ module _ (checkpoint : PlainCheckpoint) (removed pins : List ℕ) (frontier numb
         pins_are =
             sym (pinned_more number n pins
             ∙ (ap (λ b. times_pinned n pins + cond b 1 0) test ∙ ap (λ m. m + 1) (sym shows.pins_are)));
+        copied = shows.copied;
+        payload_is = shows.payload_is;
       }
   row_pinned false n found test there shows = record {
     known = shows.known;
@@ -92,11 +112,13 @@ module _ (checkpoint : PlainCheckpoint) (removed pins : List ℕ) (frontier numb
         let none : times_pinned n pins + 0 ≡ times_pinned n pins = omega arith in
         shows.pins_are
         ∙ sym (pinned_more number n pins ∙ (ap (λ b. times_pinned n pins + cond b 1 0) test ∙ none));
+    copied = shows.copied;
+    payload_is = shows.payload_is;
   }
 
   row_unpinned : (test : Bool) (n : ℕ) (found : Option ObjectRow) → (number == n) ≡ test
-      → RowShows checkpoint removed pins frontier n found
-      → RowShows checkpoint removed (without_pin number pins) frontier n (cond test (option_map unpinned found) found)
+      → RowShows seen frontier n found
+      → RowShows (with_pins_seen (without_pin number pins) seen) frontier n (cond test (option_map unpinned found) found)
   row_unpinned true n None test shows =
       let less = unpinned_less number n pins ∙ ap (λ b. times_pinned n pins - cond b 1 0) test in
       record {
@@ -104,6 +126,8 @@ module _ (checkpoint : PlainCheckpoint) (removed pins : List ℕ) (frontier numb
         above = shows.above;
         unmapped = tt;
         pins_are = omega (arith, less, shows.pins_are);
+        copied = tt;
+        payload_is = tt;
       }
   row_unpinned true n (Some row) test shows =
       let low = not_past frontier n row shows.above in
@@ -113,6 +137,8 @@ module _ (checkpoint : PlainCheckpoint) (removed pins : List ℕ) (frontier numb
         above = λ past. absurd (omega (arith, low, past));
         unmapped = shows.unmapped;
         pins_are = ap (λ m. m - 1) shows.pins_are ∙ sym less;
+        copied = shows.copied;
+        payload_is = shows.payload_is;
       }
   row_unpinned false n found test shows =
       let less = unpinned_less number n pins ∙ ap (λ b. times_pinned n pins - cond b 1 0) test in
@@ -121,6 +147,8 @@ module _ (checkpoint : PlainCheckpoint) (removed pins : List ℕ) (frontier numb
         above = shows.above;
         unmapped = shows.unmapped;
         pins_are = omega (arith, less, shows.pins_are);
+        copied = shows.copied;
+        payload_is = shows.payload_is;
       }
 
 -- ---- a pin
@@ -159,16 +187,19 @@ pinned_shows_pin data_at old new plain number k was now valid shows reads change
     let kept = pins_keep_image pinned number old.uploads new.uploads (λ row. (refl, refl)) changed_pins in
     let pins = plain.pins ++ number ∷ [] in
     let after : PlainState = record plain { pins = pins } in
-    let rows = rows_of_shown old.uploads plain was shows.table in
+    let live : ℕ → ℕ = λ n. live_of n queue.maps.objects.rows in
+    let rows = rows_of_shown live old.uploads plain was (has_own_live queue.maps.objects.rows) shows.table in
     let rows_are = ap (λ (t : TableState). t.rows) changed_pins.objects in
-    let now_rows : RowsShow plain.checkpoint plain.removed pins new.uploads.queue.frontier new.uploads.queue.maps.objects =
+    let now_rows : RowsShow (seen_of live after) new.uploads.queue.frontier new.uploads.queue.maps.objects =
     record {
       newest = ap (λ (t : TableState). t.checkpoint) changed_pins.objects ∙ shows.table.checkpoint;
       reached = omega (arith, rows.reached, changed_pins.rest.frontier);
       gone = shows.table.gone;
+      planned = planned_more queue.frontier new.uploads.queue.frontier plain.plan (omega (arith, changed_pins.rest.frontier))
+          shows.table.reached;
       rows_show = λ n.
           rw (rows_are, changed_pins.rest.frontier, row_changed pinned number n queue.maps.objects.rows (λ row. refl))
-          (row_pinned plain.checkpoint plain.removed plain.pins queue.frontier number (number == n) n
+          (row_pinned (seen_of live plain) queue.frontier number (number == n) n
           (row_of n queue.maps.objects.rows) refl
           (λ same. subst (λ m. IsSome (row_of m queue.maps.objects.rows)) (same_number number n same) there)
           (rows.rows_show n));
@@ -176,11 +207,15 @@ pinned_shows_pin data_at old new plain number k was now valid shows reads change
     let dead = subst (λ o. IfSome o (IsDeadIn queue.maps)) shows.table.removal was.known.removal in
     record {
       objects =
-          with_others data_at new plain plain.checkpoint pins plain.removed plain.given_out plain.removal
-          (table_changed data_at old new plain changed_pins.rest batch kept shows.objects);
+          with_others data_at new plain plain.checkpoint plain.plan pins plain.removed plain.given_out plain.removal
+          (table_changed data_at old new plain changed_pins.rest batch kept
+          (λ tells. same_alike tells old.uploads.queue new.uploads.queue changed_pins.receipts changed_pins.rest.sealed)
+          shows.objects);
       table =
-          shown_by_rows new.uploads.queue after (changed_pins.removal ∙ shows.table.removal)
-          (free_by number plain.pins plain.removal queue.maps dead shows.table.free apart) now_rows;
+          shown_by_rows live new.uploads.queue after (changed_pins.removal ∙ shows.table.removal)
+          (free_by number plain.pins plain.removal queue.maps dead shows.table.free apart)
+          (λ n. rw (rows_are, row_changed pinned number n queue.maps.objects.rows (λ row. refl))
+          (changed_live pinned (number == n) (row_of n queue.maps.objects.rows) (λ row. refl))) now_rows;
     }
 
 -- ---- a pin is given back
@@ -197,23 +232,30 @@ unpinned_shows_unpin data_at old new plain number was shows changed_pins batch =
     let kept = pins_keep_image unpinned number old.uploads new.uploads (λ row. (refl, refl)) changed_pins in
     let pins = without_pin number plain.pins in
     let after : PlainState = record plain { pins = pins } in
-    let rows = rows_of_shown old.uploads plain was shows.table in
+    let live : ℕ → ℕ = λ n. live_of n queue.maps.objects.rows in
+    let rows = rows_of_shown live old.uploads plain was (has_own_live queue.maps.objects.rows) shows.table in
     let rows_are = ap (λ (t : TableState). t.rows) changed_pins.objects in
-    let now_rows : RowsShow plain.checkpoint plain.removed pins new.uploads.queue.frontier new.uploads.queue.maps.objects =
+    let now_rows : RowsShow (seen_of live after) new.uploads.queue.frontier new.uploads.queue.maps.objects =
     record {
       newest = ap (λ (t : TableState). t.checkpoint) changed_pins.objects ∙ shows.table.checkpoint;
       reached = omega (arith, rows.reached, changed_pins.rest.frontier);
       gone = shows.table.gone;
+      planned = planned_more queue.frontier new.uploads.queue.frontier plain.plan (omega (arith, changed_pins.rest.frontier))
+          shows.table.reached;
       rows_show = λ n.
           rw (rows_are, changed_pins.rest.frontier, row_changed unpinned number n queue.maps.objects.rows (λ row. refl))
-          (row_unpinned plain.checkpoint plain.removed plain.pins queue.frontier number (number == n) n
+          (row_unpinned (seen_of live plain) queue.frontier number (number == n) n
           (row_of n queue.maps.objects.rows) refl (rows.rows_show n));
     } in
     record {
       objects =
-          with_others data_at new plain plain.checkpoint pins plain.removed plain.given_out plain.removal
-          (table_changed data_at old new plain changed_pins.rest batch kept shows.objects);
+          with_others data_at new plain plain.checkpoint plain.plan pins plain.removed plain.given_out plain.removal
+          (table_changed data_at old new plain changed_pins.rest batch kept
+          (λ tells. same_alike tells old.uploads.queue new.uploads.queue changed_pins.receipts changed_pins.rest.sealed)
+          shows.objects);
       table =
-          shown_by_rows new.uploads.queue after (changed_pins.removal ∙ shows.table.removal)
-          (free_yet number plain.pins plain.removal shows.table.free) now_rows;
+          shown_by_rows live new.uploads.queue after (changed_pins.removal ∙ shows.table.removal)
+          (free_yet number plain.pins plain.removal shows.table.free)
+          (λ n. rw (rows_are, row_changed unpinned number n queue.maps.objects.rows (λ row. refl))
+          (changed_live unpinned (number == n) (row_of n queue.maps.objects.rows) (λ row. refl))) now_rows;
     }

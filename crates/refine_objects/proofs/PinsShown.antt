@@ -29,6 +29,7 @@ with_pins plain pins valid = record {
   limits = valid.limits;
   sectors = valid.sectors;
   owned = valid.owned;
+  payloads = valid.payloads;
   in_range = valid.in_range;
   stream = valid.stream;
   window = valid.window;

@@ -10,7 +10,7 @@ use Rattle.std.proofs.lemmas.List.Sums.{sum_by-cons}
 use Rattle.lsvd_objstore.specs.Store.{ReceiptState}
 use Rattle.object_table.specs.declared.row.ObjectRow.{ObjectRow}
 use Rattle.object_stream.specs.Replay.{object_name}
-use Rattle.object_table.specs.Table.{TableState, has_number, row_of, numbers, without, IsRemovable, IsLowestRemovable}
+use Rattle.object_table.specs.Table.{TableState, has_number, row_of, live_of, numbers, without, IsRemovable, IsLowestRemovable}
 use Rattle.object_table.specs.Lists.{Climbs}
 use Rattle.object_table.proofs.Rows.{found_above}
 use Rattle.object_uploads.specs.State.{UploadsState}
@@ -20,13 +20,15 @@ use Rattle.object_uploads.specs.Removal.{IsRemovedNext}
 use Rattle.object_uploads.proofs.RemovalImage.{removals_keep_image}
 use Rattle.obj_log.specs.Changes.{expected_of_volume}
 use Rattle.plain_disk.specs.declared.event.PlainReply.TheVariants.{Removed, GivenBack, Nothing}
-use Rattle.plain_disk.specs.State.{PlainState, PlainCheckpoint}
-use Rattle.plain_disk.specs.Removals.{maps, has, is_removable, to_remove, reply_of_removal, with_removal, is_out}
+use Rattle.plain_disk.specs.State.{PlainState}
+use Rattle.plain_disk.specs.Removals.{maps, has, copies_from, is_removable, to_remove, reply_of_removal, with_removal, is_out}
 use Rattle.plain_disk.proofs.CheckpointLemmas.{both_true, same_number}
 use Rattle.refine_objects.specs.Table.{times_pinned, passes_unmapped, ShowsTable}
 use Rattle.refine_objects.specs.TableLaws.{ShowsBoth, TakenShowsRemoval, NoneTakenShowsNone, FinishedShowsRemoved}
 use Rattle.refine_objects.specs.TableLaws.{TakenBackShowsGivenBack, NotOutShowsNothing}
-use Rattle.refine_objects.proofs.TableRows.{RowShows, RowsShow, rows_of_shown, shown_by_rows}
+use Rattle.refine_objects.proofs.AlikeLemmas.{same_alike, taken_alike, back_alike}
+use Rattle.refine_objects.proofs.TableRows.{TableSeen, seen_of, RowShows, RowsShow, planned_more, its_live, has_own_live}
+use Rattle.refine_objects.proofs.TableRows.{rows_of_shown, shown_by_rows}
 use Rattle.refine_objects.proofs.TableChanged.{with_others, table_changed}
 
 -- ---- numbers among others
@@ -93,14 +95,16 @@ some_row (Some row) is = (row, refl)
 -- what the test of the plain volume says
 test_parts : (plain : PlainState) (number : ℕ) → is_removable plain number ≡ true
     → (passes_unmapped plain.checkpoint number ≡ true) × (not (has plain.pins number) ≡ true)
-    × (not (has plain.removed number) ≡ true)
+    × (not (copies_from plain.plan number) ≡ true) × (not (has plain.removed number) ≡ true)
 test_parts plain number removable =
     let free = not (has plain.pins number) in
+    let apart = not (copies_from plain.plan number) in
     let left = not (has plain.removed number) in
     let passes = passes_unmapped plain.checkpoint number in
-    let first = both_true (passes && free) left removable in
-    let second = both_true passes free first.0 in
-    (second.0, second.1, first.1)
+    let first = both_true (passes && free && apart) left removable in
+    let second = both_true (passes && free) apart first.0 in
+    let third = both_true passes free second.0 in
+    (third.0, third.1, second.1, first.1)
 
 -- a row that is found twice has the same live sectors
 live_of_dead : (row dead : ObjectRow) (found : Option ObjectRow) → found ≡ Some row → found ≡ Some dead → dead.live ≡ 0
@@ -130,7 +134,11 @@ module _ (uploads : UploadsState) (plain : PlainState) (is : IsUploads uploads) 
       let passes : passes_unmapped plain.checkpoint number ≡ true = sym unmapped ∙ removable.unmapped in
       let free : has plain.pins number ≡ false = not_pinned number plain.pins (sym pins ∙ removable.no_pins) in
       let left : has plain.removed number ≡ false = none_left (has plain.removed number) known in
-      rw (passes, free, left) refl
+      let copied : removable.row.is_copied ≡ copies_from plain.plan number =
+      subst (λ r. IfSome r (λ (row : ObjectRow). row.is_copied ≡ copies_from plain.plan number)) stands
+      (shows.copied number) in
+      let apart : copies_from plain.plan number ≡ false = sym copied ∙ removable.not_copied in
+      rw (passes, free, apart, left) refl
 
   -- and the other way
   pub removable_by : (number : ℕ) → 1 ≤ number → is_removable plain number ≡ true → IsRemovable table number
@@ -143,7 +151,7 @@ module _ (uploads : UploadsState) (plain : PlainState) (is : IsUploads uploads) 
       let below : number < table.checkpoint = omega (arith, below_plain, shows.checkpoint) in
       let high : number ≤ uploads.queue.frontier = omega (arith, below, is.known.checkpoint) in
       let known : is_some (row_of number table.rows) ≡ not (has plain.removed number) = shows.known number low high in
-      let left : not (has plain.removed number) ≡ true = parts.2 in
+      let left : not (has plain.removed number) ≡ true = parts.3 in
       let there = some_row (row_of number table.rows) (known ∙ left) in
       let row = there.0 in
       let stands = there.1 in
@@ -155,6 +163,9 @@ module _ (uploads : UploadsState) (plain : PlainState) (is : IsUploads uploads) 
       subst (λ r. pins_of r ≡ times_pinned number plain.pins) stands (shows.pins number) in
       let free : times_pinned number plain.pins ≡ 0 =
       no_pins number plain.pins (not_true (has plain.pins number) parts.1) in
+      let copied : row.is_copied ≡ copies_from plain.plan number =
+      subst (λ r. IfSome r (λ (row : ObjectRow). row.is_copied ≡ copies_from plain.plan number)) stands
+      (shows.copied number) in
       let dead = (is.known.unmapped number (row, stands, is_unmapped)).0 in
       record {
         row = row;
@@ -163,6 +174,7 @@ module _ (uploads : UploadsState) (plain : PlainState) (is : IsUploads uploads) 
         unmapped = is_unmapped;
         dead = live_of_dead row dead.0 (row_of number table.rows) stands dead.1 dead.3;
         no_pins = pins ∙ free;
+        not_copied = copied ∙ not_true (copies_from plain.plan number) parts.2;
       }
 
 -- ---- the lowest of them
@@ -216,13 +228,13 @@ module _ (uploads : UploadsState) (plain : PlainState) (is : IsUploads uploads) 
 -- ---- a removal begins
 
 -- one is removed next only where none is out
-next_by : (out : Option ℕ) (table : TableState) (number : ℕ) → IsRemovedNext out table (Some number)
+pub next_by : (out : Option ℕ) (table : TableState) (number : ℕ) → IsRemovedNext out table (Some number)
     → (out ≡ None) × IsLowestRemovable table (Some number)
 next_by None table number next = (refl, next)
 next_by (Some other) table number next = absurd cc
 
 pub taken_shows_removal : TakenShowsRemoval
-taken_shows_removal data_at old new plain number receipt was now valid shows next takes batch =
+taken_shows_removal data_at old new plain number receipt was now valid shows next takes one batch =
     let queue = old.uploads.queue in
     let by = next_by queue.removal queue.maps.objects number next in
     let out : plain.removal ≡ None = sym shows.table.removal ∙ by.0 in
@@ -234,18 +246,26 @@ taken_shows_removal data_at old new plain number receipt was now valid shows nex
     let rows = ap (λ (t : TableState). t.rows) takes.objects in
     let pins : removable.row.pins ≡ times_pinned number plain.pins =
     subst (λ r. pins_of r ≡ times_pinned number plain.pins) removable.stands (shows.table.pins number) in
+    let newest = ap (λ (t : TableState). t.checkpoint) takes.objects in
+    let some : 0 < new.uploads.queue.maps.objects.checkpoint =
+    omega (arith, newest, shows.table.checkpoint, valid.checkpoint.numbered) in
     let shown : ShowsBoth data_at new after = record {
       objects =
-          with_others data_at new plain plain.checkpoint plain.pins plain.removed given (Some number)
-          (table_changed data_at old new plain takes.rest batch kept shows.objects);
+          with_others data_at new plain plain.checkpoint plain.plan plain.pins plain.removed given (Some number)
+          (table_changed data_at old new plain takes.rest batch kept
+          (λ tells. taken_alike tells number receipt old.uploads new.uploads now some takes one) shows.objects);
       table = record {
         checkpoint = ap (λ (t : TableState). t.checkpoint) takes.objects ∙ shows.table.checkpoint;
         removal = takes.removal;
         known = λ n low high. rw rows (shows.table.known n low (subst (λ m. n ≤ m) takes.rest.frontier high));
         unmapped = λ n. rw rows (shows.table.unmapped n);
         pins = λ n. rw rows (shows.table.pins n);
+        copied = λ n. rw rows (shows.table.copied n);
+        payload = λ n. rw rows (shows.table.payload n);
         free = sym pins ∙ removable.no_pins;
         gone = shows.table.gone;
+        reached = planned_more queue.frontier new.uploads.queue.frontier plain.plan (omega (arith, takes.rest.frontier))
+            shows.table.reached;
       };
     } in (
       subst (ShowsBoth data_at new) (sym (ap (λ o. with_removal o (to_remove plain) plain) out
@@ -299,7 +319,7 @@ own_without number low (row ∷ rows) order =
     ] refl
 
 -- or that of another was
-other_without : (number other : ℕ) (rows : List ObjectRow) → (number == other) ≡ false
+pub other_without : (number other : ℕ) (rows : List ObjectRow) → (number == other) ≡ false
     → row_of other (without number rows) ≡ row_of other rows
 other_without number other [] apart = refl
 other_without number other (row ∷ rows) apart =
@@ -313,37 +333,53 @@ other_without number other (row ∷ rows) apart =
           ap (λ found. cond (has_number other row) (Some row) found) (other_without number other rows apart)
     ] refl
 
-module _ (checkpoint : PlainCheckpoint) (removed pins : List ℕ) (frontier number : ℕ) (rows : List ObjectRow)
-    (order : Climbs 0 (numbers rows)) (free : times_pinned number pins ≡ 0) where
+module _ (seen : TableSeen) (frontier number : ℕ) (rows : List ObjectRow)
+    (order : Climbs 0 (numbers rows)) (free : times_pinned number seen.pins ≡ 0) where
   abbrev gone : List ℕ
-  gone = removed ++ number ∷ []
+  gone = seen.removed ++ number ∷ []
+
+  abbrev later : TableSeen
+  later = record seen { removed = gone }
 
   -- what the row of a number shows, once that object was removed
   row_gone : (test : Bool) (n : ℕ) → (number == n) ≡ test
-      → RowShows checkpoint removed pins frontier n (row_of n rows)
-      → RowShows checkpoint gone pins frontier n (row_of n (without number rows))
+      → RowShows seen frontier n (row_of n rows)
+      → RowShows later frontier n (row_of n (without number rows))
   row_gone true n test shows =
       let same : number ≡ n = same_number number n test in
       let none : row_of n (without number rows) ≡ None =
       ap (λ m. row_of m (without number rows)) (sym same) ∙ own_without number 0 rows order in
       let gone_is : has gone n ≡ true =
-      has_more number n removed ∙ (ap (λ b. has removed n || b) test ∙ or_true (has removed n)) in
+      has_more number n seen.removed ∙ (ap (λ b. has seen.removed n || b) test ∙ or_true (has seen.removed n)) in
       rw none (record {
         known = λ low high. rw gone_is refl;
         above = λ past. refl;
         unmapped = tt;
-        pins_are = sym free ∙ ap (λ m. times_pinned m pins) same;
+        pins_are = sym free ∙ ap (λ m. times_pinned m seen.pins) same;
+        copied = tt;
+        payload_is = tt;
       })
   row_gone false n test shows =
       let stays : row_of n (without number rows) ≡ row_of n rows = other_without number n rows test in
-      let gone_is : has gone n ≡ has removed n =
-      has_more number n removed ∙ (ap (λ b. has removed n || b) test ∙ or_false (has removed n)) in
+      let gone_is : has gone n ≡ has seen.removed n =
+      has_more number n seen.removed ∙ (ap (λ b. has seen.removed n || b) test ∙ or_false (has seen.removed n)) in
       rw stays (record {
         known = λ low high. shows.known low high ∙ ap not (sym gone_is);
         above = shows.above;
         unmapped = shows.unmapped;
         pins_are = shows.pins_are;
+        copied = shows.copied;
+        payload_is = shows.payload_is;
       })
+
+-- the rows that are left have the live sectors that they had
+left_live : (number n : ℕ) (rows : List ObjectRow) (test : Bool) → Climbs 0 (numbers rows) → (number == n) ≡ test
+    → IfSome (row_of n (without number rows)) (λ row. 0 < row.live → 0 < live_of n rows)
+left_live number n rows true order test =
+    let none : row_of n (without number rows) ≡ None =
+    ap (λ m. row_of m (without number rows)) (sym (same_number number n test)) ∙ own_without number 0 rows order in
+    rw none tt
+left_live number n rows false order test = rw (other_without number n rows test) (its_live (row_of n rows))
 
 pub finished_shows_removed : FinishedShowsRemoved
 finished_shows_removed data_at old new plain number was now shows out done batch =
@@ -357,22 +393,27 @@ finished_shows_removed data_at old new plain number was now shows out done batch
     subst (λ o. IfSome o (λ n. times_pinned n plain.pins ≡ 0)) plain_out shows.table.free in
     let removed = plain.removed ++ number ∷ [] in
     let after : PlainState = record plain { removed = removed; removal = None } in
-    let rows = rows_of_shown old.uploads plain was shows.table in
+    let live : ℕ → ℕ = λ n. live_of n queue.maps.objects.rows in
+    let rows = rows_of_shown live old.uploads plain was (has_own_live queue.maps.objects.rows) shows.table in
     let Below : ℕ → Type 0 = λ n. n < plain.checkpoint.number in
     let low : number < plain.checkpoint.number = omega (arith, below, shows.table.checkpoint) in
-    let now_rows : RowsShow plain.checkpoint removed plain.pins new.uploads.queue.frontier new.uploads.queue.maps.objects =
+    let now_rows : RowsShow (seen_of live after) new.uploads.queue.frontier new.uploads.queue.maps.objects =
     record {
       newest = done.checkpoint ∙ shows.table.checkpoint;
       reached = omega (arith, rows.reached, done.rest.frontier);
       gone = All-append Below plain.removed (number ∷ []) shows.table.gone (All-cons Below number [] low (All-nil Below));
-      rows_show = λ n. rw (done.rows, done.rest.frontier) (row_gone plain.checkpoint plain.removed plain.pins queue.frontier
+      planned = planned_more queue.frontier new.uploads.queue.frontier plain.plan (omega (arith, done.rest.frontier))
+          shows.table.reached;
+      rows_show = λ n. rw (done.rows, done.rest.frontier) (row_gone (seen_of live plain) queue.frontier
           number queue.maps.objects.rows was.known.order free (number == n) n refl (rows.rows_show n));
     } in
     let shown : ShowsBoth data_at new after = record {
       objects =
-          with_others data_at new plain plain.checkpoint plain.pins removed plain.given_out None
-          (table_changed data_at old new plain done.rest batch kept shows.objects);
-      table = shown_by_rows new.uploads.queue after done.removal tt now_rows;
+          with_others data_at new plain plain.checkpoint plain.plan plain.pins removed plain.given_out None
+          (table_changed data_at old new plain done.rest batch kept
+          (λ tells. same_alike tells old.uploads.queue new.uploads.queue done.receipts done.rest.sealed) shows.objects);
+      table = shown_by_rows live new.uploads.queue after done.removal tt
+          (λ n. rw done.rows (left_live number n queue.maps.objects.rows (number == n) was.known.order refl)) now_rows;
     } in
     let is : is_out number plain.removal ≡ true = ap (is_out number) plain_out ∙ its_own number in
     (subst (ShowsBoth data_at new) (sym (ap (λ b. cond b after plain) is)) shown, ap (λ b. cond b Removed Nothing) is)
@@ -385,16 +426,21 @@ taken_back_shows_given_back data_at old new plain number receipt was now shows o
     let rows = ap (λ (t : TableState). t.rows) back.objects in
     let shown : ShowsBoth data_at new after = record {
       objects =
-          with_others data_at new plain plain.checkpoint plain.pins plain.removed plain.given_out None
-          (table_changed data_at old new plain back.rest batch kept shows.objects);
+          with_others data_at new plain plain.checkpoint plain.plan plain.pins plain.removed plain.given_out None
+          (table_changed data_at old new plain back.rest batch kept
+          (λ tells. back_alike tells number receipt old.uploads new.uploads back) shows.objects);
       table = record {
         checkpoint = ap (λ (t : TableState). t.checkpoint) back.objects ∙ shows.table.checkpoint;
         removal = back.removal;
         known = λ n low high. rw rows (shows.table.known n low (subst (λ m. n ≤ m) back.rest.frontier high));
         unmapped = λ n. rw rows (shows.table.unmapped n);
         pins = λ n. rw rows (shows.table.pins n);
+        copied = λ n. rw rows (shows.table.copied n);
+        payload = λ n. rw rows (shows.table.payload n);
         free = tt;
         gone = shows.table.gone;
+        reached = planned_more old.uploads.queue.frontier new.uploads.queue.frontier plain.plan
+            (omega (arith, back.rest.frontier)) shows.table.reached;
       };
     } in
     let is : is_out number plain.removal ≡ true = ap (is_out number) plain_out ∙ its_own number in

@@ -16,7 +16,7 @@ use Rattle.object_stream.specs.declared.object.Content.TheVariants.{Data}
 use Rattle.object_stream.specs.declared.object.StreamObject.{StreamObject}
 use Rattle.object_stream.specs.Stream.{end_after}
 use Rattle.object_uploads.specs.Order.{IsUploads}
-use Rattle.object_uploads.specs.Image.{HasImage}
+use Rattle.object_uploads.specs.Image.{HasImage, AreCopied}
 use Rattle.object_uploads.specs.Laws.{with_data_object}
 use Rattle.obj_log.specs.State.{ObjLogState}
 use Rattle.obj_log.specs.Changes.{HasSealedObject}
@@ -31,6 +31,7 @@ use Rattle.plain_disk.specs.Valid.{IsPlainVolume}
 use Rattle.plain_disk.proofs.EndLemmas.{frontier_is_sealed}
 use Rattle.refine_objects.specs.Shows.{settled_image, ShowsObjects}
 use Rattle.refine_objects.specs.Laws.{SealedShowsSeal, RefusedSealShowsNone}
+use Rattle.refine_objects.proofs.AlikeLemmas.{sealed_alike}
 
 -- ---- how many entries are sealed
 
@@ -129,6 +130,10 @@ module _ (data_at : ℕ → ℕ) (old new : ObjLogState) (plain : PlainState) (u
         image = subst (λ image. HasImage image new.uploads.queue) (sym (image_same plain valid))
             (kept.image (settled_image plain) shows.image);
         receipts = kept.receipts shows.receipts;
+        copied = λ tells alike.
+            subst (λ image. AreCopied tells image new.uploads.queue) (sym (image_same plain valid))
+            (kept.copies tells (settled_image plain) (shows.copied tells
+            (sealed_alike tells sealed.bytes _ _ old.uploads new.uploads sealed.uploads alike)));
       }
 
 pub sealed_shows_seal : SealedShowsSeal

@@ -12,9 +12,10 @@ use Rattle.volume_maps.specs.declared.place.ObjectPlace.{ObjectPlace}
 use Rattle.volume_maps.specs.Maps.{MapsState}
 use Rattle.volume_maps.specs.Live.{HasSameObjects}
 use Rattle.object_uploads.specs.declared.rows.SealedRows.{SealedRows}
-use Rattle.object_uploads.specs.declared.rows.SealedRows.TheVariants.{Data, Checkpoint}
+use Rattle.object_uploads.specs.declared.rows.SealedRows.TheVariants.{Data, Copy, Checkpoint}
 use Rattle.object_uploads.specs.State.{SealedState}
-use Rattle.object_uploads.specs.Queue.{is_checkpoint, payload_of, front_of, with_at, with_receipt, settled_by_rows}
+use Rattle.object_uploads.specs.Queue.{is_checkpoint, payload_of, front_of, copy_payload_of, copy_front_of, with_at, with_receipt}
+use Rattle.object_uploads.specs.Queue.{settled_by_rows}
 use Rattle.object_uploads.specs.Queue.{settled_by_all}
 use Rattle.object_uploads.specs.Queue.{SettlesSealed, SettlesCheckpoint, SettlesObjects, FirstWaits}
 use Rattle.object_uploads.specs.Order.{IsOpenFirst, AreOpen, AreWaiting}
@@ -23,7 +24,7 @@ use Rattle.object_uploads.proofs.BegunLemmas.{open_from}
 use Rattle.plain_disk.specs.State.{PlainCheckpoint}
 use Rattle.plain_disk.specs.Checkpoints.{is_started_checkpoint}
 use Rattle.plain_disk.proofs.CheckpointLemmas.{any_tells, both_true, same_number}
-use Rattle.refine_objects.proofs.TableRows.{RowsShow, MapsLive, data_settled, checkpoint_settled}
+use Rattle.refine_objects.proofs.TableRows.{TableSeen, with_newest, RowsShow, MapsLive, data_settled, checkpoint_settled}
 
 -- ---- data objects
 
@@ -33,29 +34,55 @@ no_checkpoint false receipt given waiting = refl
 no_checkpoint true None given waiting = absurd cc
 no_checkpoint true (Some receipt) given waiting = let none = waiting refl in absurd cc
 
+-- the sectors of payload of an object with these rows and so many bytes
+abbrev pub payload_in : (size : ℕ) → SealedRows → ℕ
+payload_in size (Data list) = payload_of size list.items
+payload_in size (Copy list) = copy_payload_of size list.items
+payload_in size Checkpoint = 0
+
+-- objects after one of a number have so many each
+abbrev pub HavePayloads : (payload : ℕ → ℕ) → (number : ℕ) → List SealedState → Type 0
+HavePayloads payload number [] = Unit {0}
+HavePayloads payload number (sealed ∷ more) =
+    (payload_in (length sealed.bytes) sealed.rows ≡ payload (number + 1)) × HavePayloads payload (number + 1) more
+
+pub payloads_taken : (payload : ℕ → ℕ) (number count : ℕ) (list : List SealedState) → HavePayloads payload number list
+    → HavePayloads payload number (take count list)
+payloads_taken payload number zero list have = tt
+payloads_taken payload number (suc count) [] have = tt
+payloads_taken payload number (suc count) (first ∷ list) have =
+    (have.0, payloads_taken payload (number + 1) count list have.1)
+
+pub payloads_given : (payload : ℕ → ℕ) (number index : ℕ) (receipt : ReceiptState) (list : List SealedState)
+    → HavePayloads payload number list → HavePayloads payload number (with_at index (with_receipt receipt) list)
+payloads_given payload number index receipt [] have = tt
+payloads_given payload number zero receipt (first ∷ list) have = (have.0, have.1)
+payloads_given payload number (suc index) receipt (first ∷ list) have =
+    (have.0, payloads_given payload (number + 1) index receipt list have.1)
+
 -- the table is that with a row more
 one_data : (number size : ℕ) (rows : SealedRows) (end : ℕ) (old new : MapsState) → is_checkpoint rows ≡ false
     → SettlesSealed number size rows end old new
-    → (payload : ℕ) × ((front : ℕ) × HasSameObjects (added (new_row number payload front) old.objects) new.objects)
-one_data number size (Data list) end old new kind settles =
-    (payload_of size list.items, (front_of list.items, settles.objects))
+    → (front : ℕ) × HasSameObjects (added (new_row number (payload_in size rows) front) old.objects) new.objects
+one_data number size (Data list) end old new kind settles = (front_of list.items, settles.objects)
+one_data number size (Copy list) end old new kind settles = (copy_front_of list.items, settles.objects)
 one_data number size Checkpoint end old new kind settles = absurd cc
 
 -- so is each that is settled, where checkpoints wait
-pub settle_data : (checkpoint : PlainCheckpoint) (removed pins : List ℕ) (number : ℕ) (sealed : List SealedState)
-    (old new : MapsState)
-    → AllByRecursion (λ (s : SealedState). IsSome s.receipt) sealed → AreWaiting sealed → SettlesObjects number sealed old new
-    → RowsShow checkpoint removed pins number old.objects
-    → RowsShow checkpoint removed pins (number + length sealed) new.objects
-settle_data checkpoint removed pins number [] old new given waiting settles shows =
+pub settle_data : (seen : TableSeen) (number : ℕ) (sealed : List SealedState) (old new : MapsState)
+    → AllByRecursion (λ (s : SealedState). IsSome s.receipt) sealed → AreWaiting sealed → HavePayloads seen.payload number sealed
+    → SettlesObjects number sealed old new → RowsShow seen number old.objects
+    → RowsShow seen (number + length sealed) new.objects
+settle_data seen number [] old new given waiting have settles shows =
     let same : number + 0 ≡ number = omega arith in
-    rw same (subst (λ (m : MapsState). RowsShow checkpoint removed pins number m.objects) (sym settles) shows)
-settle_data checkpoint removed pins number (first ∷ more) old new given waiting settles shows =
+    rw same (subst (λ (m : MapsState). RowsShow seen number m.objects) (sym settles) shows)
+settle_data seen number (first ∷ more) old new given waiting have settles shows =
     let kind = no_checkpoint (is_checkpoint first.rows) first.receipt given.0 waiting.0 in
     let one = one_data (number + 1) (length first.bytes) first.rows first.end old settles.0 kind settles.1 in
-    let now = data_settled checkpoint removed pins number one.0 one.1.0 old.objects settles.0.objects one.1.1 shows in
+    let now = data_settled seen number (payload_in (length first.bytes) first.rows) one.0 old.objects settles.0.objects one.1
+    have.0 shows in
     let same : number + suc (length more) ≡ number + 1 + length more = omega arith in
-    rw same (settle_data checkpoint removed pins (number + 1) more settles.0 new given.1 waiting.1 settles.2 now)
+    rw same (settle_data seen (number + 1) more settles.0 new given.1 waiting.1 have.1 settles.2 now)
 
 -- of more objects the first wait too
 pub waiting_taken : (count : ℕ) (list : List SealedState) → AreWaiting list → AreWaiting (take count list)
@@ -162,6 +189,7 @@ first_is_checkpoint number (sealed ∷ list) objects are opened found =
 unplaced_by : (number : ℕ) (rows : SealedRows) (before : Option ObjectPlace) (k : ℕ) → is_checkpoint rows ≡ true
     → settled_by_rows number rows before k ≡ before
 unplaced_by number (Data list) before k kind = absurd cc
+unplaced_by number (Copy list) before k kind = absurd cc
 unplaced_by number Checkpoint before k kind = refl
 
 pub places_stay : (number : ℕ) (list : List SealedState) (before : Option ObjectPlace) (k : ℕ) → FirstIsCheckpoint list
@@ -173,28 +201,36 @@ places_stay number (sealed ∷ list) before k first = unplaced_by (number + 1) s
 one_checkpoint : (number size : ℕ) (rows : SealedRows) (end : ℕ) (old new : MapsState) → is_checkpoint rows ≡ true
     → SettlesSealed number size rows end old new → SettlesCheckpoint number old new
 one_checkpoint number size (Data list) end old new kind settles = absurd cc
+one_checkpoint number size (Copy list) end old new kind settles = absurd cc
 one_checkpoint number size Checkpoint end old new kind settles = settles
 
--- it is settled, and the data objects after it that are acknowledged
-pub settle_first : (before after : PlainCheckpoint) (removed pins : List ℕ) (number count : ℕ) (receipt : ReceiptState)
+-- it has no payload
+no_payload : (size : ℕ) (rows : SealedRows) → is_checkpoint rows ≡ true → 0 ≡ payload_in size rows
+no_payload size (Data list) kind = absurd cc
+no_payload size (Copy list) kind = absurd cc
+no_payload size Checkpoint kind = refl
+
+-- it is settled, and the objects after it that are acknowledged
+pub settle_first : (seen : TableSeen) (after : PlainCheckpoint) (number count : ℕ) (receipt : ReceiptState)
     (list : List SealedState) (old new : MapsState)
     → FirstIsCheckpoint list → FirstWaits (drop count (with_at 0 (with_receipt receipt) list))
     → AllByRecursion (λ (s : SealedState). IsSome s.receipt) (take count (with_at 0 (with_receipt receipt) list))
-    → AreWaiting list → SettlesObjects number (take count (with_at 0 (with_receipt receipt) list)) old new
+    → AreWaiting list → HavePayloads seen.payload number list
+    → SettlesObjects number (take count (with_at 0 (with_receipt receipt) list)) old new
     → after.number ≡ number + 1 → ((n : ℕ) → MapsLive after n (row_of n old.objects.rows))
-    → RowsShow before removed pins number old.objects
-    → RowsShow after removed pins (number + length (take count (with_at 0 (with_receipt receipt) list))) new.objects
-settle_first before after removed pins number count receipt [] old new first waits given waiting settles is live shows =
-    absurd first
-settle_first before after removed pins number zero receipt (sealed ∷ list) old new first waits given waiting settles is live
-    shows =
+    → RowsShow seen number old.objects
+    → RowsShow (with_newest after seen) (number + length (take count (with_at 0 (with_receipt receipt) list))) new.objects
+settle_first seen after number count receipt [] old new first waits given waiting have settles is live shows = absurd first
+settle_first seen after number zero receipt (sealed ∷ list) old new first waits given waiting have settles is live shows =
     absurd waits
-settle_first before after removed pins number (suc count) receipt (sealed ∷ list) old new first waits given waiting settles is
-    live shows =
+settle_first seen after number (suc count) receipt (sealed ∷ list) old new first waits given waiting have settles is live
+    shows =
     let middle = settles.0 in
+    let now = with_newest after seen in
     let one = one_checkpoint (number + 1) (length sealed.bytes) sealed.rows sealed.end old middle first settles.1 in
-    let passed = checkpoint_settled before after removed pins number old.objects is live shows in
-    let there = subst (RowsShow after removed pins (number + 1)) (sym one.objects) passed in
+    let none = no_payload (length sealed.bytes) sealed.rows first ∙ have.0 in
+    let passed = checkpoint_settled seen after number old.objects is live none shows in
+    let there = subst (RowsShow now (number + 1)) (sym one.objects) passed in
     let same : number + suc (length (take count list)) ≡ number + 1 + length (take count list) = omega arith in
-    rw same (settle_data after removed pins (number + 1) (take count list) middle new given.1
-    (waiting_taken count list waiting.1) settles.2 there)
+    rw same (settle_data now (number + 1) (take count list) middle new given.1
+    (waiting_taken count list waiting.1) (payloads_taken seen.payload (number + 1) count list have.1) settles.2 there)

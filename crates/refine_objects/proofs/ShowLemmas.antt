@@ -9,16 +9,17 @@ use Rattle.lsvd_base.specs.Image.{after}
 use Rattle.upload_window.specs.Window.{below_open}
 use Rattle.object_stream.specs.Stream.{end_at}
 use Rattle.volume_maps.specs.Places.{place_left_by, left_at}
-use Rattle.object_uploads.specs.Image.{HasImage}
+use Rattle.object_uploads.specs.Image.{HasImage, AreCopied}
 use Rattle.object_uploads.proofs.UploadsKept.{frontier_below}
 use Rattle.batcher.specs.State.{BatchState}
 use Rattle.obj_log.proofs.StreamLemmas.{new_list_begins_stream, room_keeps_stream, adding_keeps_stream, next_seq}
 use Rattle.obj_log.proofs.ImageLemmas.{new_list_has_blank, room_keeps_image, adding_keeps_image}
-use Rattle.plain_disk.specs.State.{stream_in, history_length, frontier_of, frontier_end}
+use Rattle.plain_disk.specs.State.{created_volume, stream_in, history_length, frontier_of, frontier_end}
 use Rattle.plain_disk.proofs.EndLemmas.{frontier_ends}
 use Rattle.refine_objects.specs.Shows.{settled_image}
 use Rattle.refine_objects.specs.Laws.{ShownHaveCounts, NewShowsCreated, ShownWithOtherCache, ShownWithOtherPlaces, RoomShowsSame}
 use Rattle.refine_objects.specs.Laws.{AddedShowsEntry}
+use Rattle.refine_objects.proofs.AlikeLemmas.{same_alike}
 
 pub shown_have_counts : ShownHaveCounts
 shown_have_counts data_at objects plain uploads valid shows =
@@ -45,6 +46,7 @@ new_shows_created data_at objects geometry limits batch uploads sectors window f
       window = window;
       image = has.0;
       receipts = has.1;
+      copied = λ tells alike. has.2 tells (settled_image (created_volume geometry));
     }
 
 pub shown_with_other_cache : ShownWithOtherCache
@@ -54,6 +56,7 @@ shown_with_other_cache data_at objects plain cache pins shows = record {
   window = shows.window;
   image = shows.image;
   receipts = shows.receipts;
+  copied = shows.copied;
 }
 
 -- where entries leave a sector depends only on where their own data begin
@@ -95,6 +98,7 @@ shown_with_other_places data_at other objects plain same shows =
       window = shows.window;
       image = shows.image;
       receipts = shows.receipts;
+      copied = shows.copied;
     }
 
 pub room_shows_same : RoomShowsSame
@@ -106,6 +110,9 @@ room_shows_same data_at old new plain shows same =
       window = same.uploads.window ∙ shows.window;
       image = kept.image (settled_image plain) shows.image;
       receipts = kept.receipts shows.receipts;
+      copied = λ tells alike. kept.copies tells (settled_image plain)
+          (shows.copied tells (same_alike tells old.uploads.queue new.uploads.queue same.uploads.settled.receipts
+          same.uploads.sealed alike));
     }
 
 pub added_shows_entry : AddedShowsEntry
@@ -121,4 +128,8 @@ added_shows_entry data_at old new plain entry uploads valid shows added =
       image = subst (λ entries. HasImage (after plain.opening entries) new.uploads.queue) (sym same)
           (kept.image (settled_image plain) shows.image);
       receipts = kept.receipts shows.receipts;
+      copied = λ tells alike.
+          subst (λ entries. AreCopied tells (after plain.opening entries) new.uploads.queue) (sym same)
+          (kept.copies tells (settled_image plain) (shows.copied tells (same_alike tells old.uploads.queue new.uploads.queue
+          added.entered.receipts added.entered.sealed alike)));
     }

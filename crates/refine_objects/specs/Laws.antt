@@ -19,7 +19,7 @@ use Rattle.plain_disk.specs.State.{unsealed_entries, folded_to}
 use Rattle.plain_disk.specs.Objects.{seal_reply, after_seal, after_take, after_done, after_failed}
 use Rattle.plain_disk.specs.declared.event.PlainReply.TheVariants.{Sealed, Nothing, Busy}
 use Rattle.plain_disk.specs.Valid.{IsPlainVolume}
-use Rattle.refine_objects.specs.Shows.{ShowsObjects}
+use Rattle.refine_objects.specs.Shows.{TellsAsOne, ShowsObjects}
 
 -- ---- what it shows
 
@@ -116,11 +116,11 @@ FailedShowsFailed =
     → ShowsObjects data_at objects plain → is_started number objects.uploads.window.objects ≡ true
     → ShowsObjects data_at (record objects { uploads = with_job number false objects.uploads }) (after_failed (Some number) plain)
 
--- a put is done, whose receipt tells no other bytes than those of the sealed object
+-- a put is done, whose receipt tells no other bytes than those of the sealed object, where all receipts tell bytes or none does
 abbrev pub DoneShowsDone : Type 0
 DoneShowsDone =
     (data_at : ℕ → ℕ) (old new : ObjLogState) (plain : PlainState) (number : ℕ) (bytes : List ℕ) (receipt : ReceiptState)
     → IsUploads old.uploads → IsPlainVolume plain → ShowsObjects data_at old plain
     → IsOut old.uploads number bytes → IsReceiptFor bytes receipt → IsPutDone number receipt old.uploads new.uploads
-    → new.batch ≡ old.batch
+    → TellsAsOne new.uploads.queue → new.batch ≡ old.batch
     → ShowsObjects data_at new (after_done (Some number) plain)

@@ -26,7 +26,7 @@ use Rattle.plain_disk.specs.Objects.{seal_checkpoint_reply, after_seal_checkpoin
 use Rattle.plain_disk.specs.Removals.{take_remove_reply, after_take_remove, remove_done_reply, after_remove_done}
 use Rattle.plain_disk.specs.Removals.{remove_failed_reply, after_remove_failed}
 use Rattle.plain_disk.specs.Valid.{IsPlainVolume}
-use Rattle.refine_objects.specs.Shows.{ShowsObjects}
+use Rattle.refine_objects.specs.Shows.{TellsAsOne, ShowsObjects}
 use Rattle.refine_objects.specs.Table.{ShowsTable}
 
 -- a list and its table show a plain volume
@@ -58,12 +58,13 @@ RoomShowsSameTable =
 abbrev pub AddedShowsTable : Type 0
 AddedShowsTable =
     (old new : ObjLogState) (plain : PlainState) (entry : Entry) (data_at : ℕ) → IsAdded entry data_at old new
-    → ShowsTable old.uploads.queue plain
+    → IsPlainVolume plain → ShowsTable old.uploads.queue plain
     → ShowsTable new.uploads.queue (record plain { entries = plain.entries ++ entry ∷ [] })
 
 abbrev pub SealedShowsTable : Type 0
 SealedShowsTable =
-    (old new : ObjLogState) (plain : PlainState) → HasSealedObject old new → ShowsTable old.uploads.queue plain
+    (data_at : ℕ → ℕ) (old new : ObjLogState) (plain : PlainState)
+    → IsUploads old.uploads → IsPlainVolume plain → ShowsBoth data_at old plain → HasSealedObject old new
     → ShowsTable new.uploads.queue (after_seal plain)
 
 abbrev pub TakenShowsTable : Type 0
@@ -117,7 +118,7 @@ TakenShowsRemoval =
     (data_at : ℕ → ℕ) (old new : ObjLogState) (plain : PlainState) (number : ℕ) (receipt : ReceiptState)
     → IsUploads old.uploads → IsUploads new.uploads → IsPlainVolume plain → ShowsBoth data_at old plain
     → IsRemovedNext old.uploads.queue.removal old.uploads.queue.maps.objects (Some number)
-    → TakesRemoval number receipt old.uploads new.uploads → new.batch ≡ old.batch
+    → TakesRemoval number receipt old.uploads new.uploads → TellsAsOne old.uploads.queue → new.batch ≡ old.batch
     → ShowsBoth data_at new (after_take_remove plain) × (take_remove_reply plain ≡ Removing number)
 
 abbrev pub NoneTakenShowsNone : Type 0

@@ -5,9 +5,11 @@
 #![tactic(auto)]
 
 mod laws;
+mod plan_laws;
 mod table_laws;
 
 pub use laws::{calls_show_what_the_plain_volume_does, the_list_shows_a_plain_volume};
+pub use plan_laws::{calls_keep_the_plan_that_is_out, plans_show_the_plain_volume_s};
 pub use table_laws::{
     calls_keep_what_the_table_shows, checkpoints_and_removals_show_the_plain_volume_s,
 };

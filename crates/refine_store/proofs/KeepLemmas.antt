@@ -7,29 +7,32 @@ use Rattle.std.specs.List.{slice_get}
 use Rattle.std.proofs.lemmas.List.{take-take, take-append-le, take-append-drop, length-take-le}
 use Rattle.std.proofs.lemmas.Option.{slice_get_within}
 use Rattle.lsvd_base.specs.declared.entry.Entry.{Entry}
+use Rattle.lsvd_base.specs.Image.{Image, after}
 use Rattle.object_format.specs.declared.expected.Expected.{Expected}
 use Rattle.ckpt_format.specs.Checkpoint.{IsCheckpoint}
+use Rattle.object_stream.specs.declared.object.CopiedSector.{CopiedSector}
 use Rattle.object_stream.specs.declared.object.Content.{Content}
 use Rattle.object_stream.specs.declared.object.Content.TheVariants.{Data, Copy, Checkpoint}
 use Rattle.object_stream.specs.declared.object.StreamObject.{StreamObject}
 use Rattle.object_stream.specs.declared.owner.Owner.{Owner}
-use Rattle.object_stream.specs.Changes.{place_in_payload}
 use Rattle.object_stream.specs.Replay.{expected_at}
-use Rattle.object_stream.specs.Stream.{Stream, Owners, owners, after_objects, end_after, end_at, last_number, entries_in_object}
+use Rattle.object_stream.specs.Stream.{Stream, Owners, owners, is_own, place_in_object, after_objects, end_after, end_at}
+use Rattle.object_stream.specs.Stream.{last_number, entries_in_object}
 use Rattle.object_stream.proofs.StreamLemmas.{follow_first}
 use Rattle.upload_window.specs.Window.{entered}
 use Rattle.volume_maps.specs.declared.place.ObjectPlace.{ObjectPlace}
 use Rattle.volume_maps.specs.Laws.{place_owner}
 use Rattle.object_uploads.specs.declared.rows.SealedRows.{SealedRows}
 use Rattle.object_uploads.specs.declared.rows.SealedRows.TheVariants as sealed_rows
-use Rattle.object_uploads.specs.Stream.{IsPlacedIn, HoldsContent}
+use Rattle.object_uploads.specs.Stream.{object_at, IsPlacedIn, HoldsContent}
 use Rattle.stopped_volume.specs.Expected.{expected_alone}
 use Rattle.plain_disk.specs.declared.event.PlainEvent.{PlainEvent}
 use Rattle.plain_disk.specs.declared.event.PlainEvent.TheVariants.{Write, Zero, Flush, Look, Release, Seal, TakeJob, JobDone}
 use Rattle.plain_disk.specs.declared.event.PlainEvent.TheVariants.{JobFailed, SealCheckpoint, TakeRemove}
-use Rattle.plain_disk.specs.declared.event.PlainEvent.TheVariants.{RemoveDone, RemoveFailed, Status}
+use Rattle.plain_disk.specs.declared.event.PlainEvent.TheVariants.{RemoveDone, RemoveFailed, PlanCopy, SealCopy, DropPlan, Status}
 use Rattle.lsvd_base.specs.Limits.{may_transfer}
 use Rattle.plain_disk.specs.Cache.{after_reads}
+use Rattle.plain_disk.specs.Collection.{planned_copy, with_plan, after_sealed_copy}
 use Rattle.plain_disk.specs.Objects.{has_unsealed, is_busy, end_of_next}
 use Rattle.plain_disk.specs.Reads.{look_calls, passes_look, objects_read, are_pinned, without_pins}
 use Rattle.plain_disk.specs.Removals.{to_remove, with_removal, is_out}
@@ -41,7 +44,7 @@ use Rattle.plain_disk.proofs.EndLemmas.{ends_grow, ends_within, ends_from}
 use Rattle.plain_disk.proofs.FlushLemmas.{events_keep_committed}
 use Rattle.plain_disk.proofs.FoldLemmas.{owners_of_first}
 use Rattle.plain_disk.proofs.OpeningLemmas.{owners_are_past}
-use Rattle.refine_store.specs.Puts.{IsOpeningObject, IsLaterObject, IsObjectOf}
+use Rattle.refine_store.specs.Puts.{IsOpeningObject, image_up_to, HasSourceSectors, IsLaterObject, IsObjectOf}
 use Rattle.refine_store.specs.Laws.{EventsKeepObject, MountsKeepObject}
 use Rattle.refine_store.proofs.ObjectLemmas.{get_of_first, same_part}
 
@@ -61,16 +64,31 @@ holds_too : (stream other : Stream) (expected : Expected) (content : Content) (e
     → HoldsContent stream expected content entries before end bytes rows
     → HoldsContent other expected content entries before end bytes rows
 holds_too stream other expected Data entries before end bytes (sealed_rows.Data list) too holds = holds
+holds_too stream other expected (Copy pairs) entries before end bytes (sealed_rows.Copy list) too holds = holds
 holds_too stream other expected Checkpoint entries before end bytes sealed_rows.Checkpoint too holds = record {
   places = holds.places;
   holds = holds.holds;
   owners_are = holds.owners_are;
   placed = λ k. placed_too stream other (before k) k (holds.places k) (holds.owners_are k) (too k) (holds.placed k);
 }
+holds_too stream other expected Data entries before end bytes (sealed_rows.Copy list) too holds = absurd holds
 holds_too stream other expected Data entries before end bytes sealed_rows.Checkpoint too holds = absurd holds
 holds_too stream other expected Checkpoint entries before end bytes (sealed_rows.Data list) too holds = absurd holds
+holds_too stream other expected Checkpoint entries before end bytes (sealed_rows.Copy list) too holds = absurd holds
 holds_too stream other expected (Copy copied) entries before end bytes (sealed_rows.Data list) too holds = absurd holds
 holds_too stream other expected (Copy copied) entries before end bytes sealed_rows.Checkpoint too holds = absurd holds
+
+-- the sectors of a copy are told by the owners and the image before it
+pub copied_too : (plain now : PlainState) (number : ℕ) (bytes : List ℕ) (rows : SealedRows)
+    → owners (stream_in now) (number - 1) ≡ owners (stream_in plain) (number - 1)
+    → image_up_to now (number - 1) ≡ image_up_to plain (number - 1)
+    → HasSourceSectors plain number bytes rows → HasSourceSectors now number bytes rows
+copied_too plain now number bytes (sealed_rows.Data list) owned image copied = tt
+copied_too plain now number bytes (sealed_rows.Copy list) owned image copied =
+    λ k source sector from own at.
+    copied k source sector from (ap (λ (os : Owners). is_own source (os k)) (sym owned) ∙ own)
+    (ap (λ (i : Image). slice_get i k) (sym image) ∙ at)
+copied_too plain now number bytes sealed_rows.Checkpoint owned image copied = tt
 
 -- ---- a volume with the same object
 
@@ -90,7 +108,8 @@ module _ (volume : Expected) (plain : PlainState) (number : ℕ) (bytes : List �
   size_within = omega (arith, ends_within plain number valid (omega (arith, count_within, is.past)))
 
   -- another volume that opens at the same object, and has the same objects and entries up to there, has it
-  module _ (now : PlainState) (opens : now.number ≡ plain.number) (ends : now.end ≡ plain.end) (owned : now.owned ≡ plain.owned)
+  module _ (now : PlainState) (opens : now.number ≡ plain.number) (ends : now.end ≡ plain.end)
+      (opening : now.opening ≡ plain.opening) (owned : now.owned ≡ plain.owned)
       (objects : take count now.objects ≡ take count plain.objects) (entries : take size now.entries ≡ take size plain.entries)
     where
       same_objects : (n : ℕ) → n ≤ count → take n now.objects ≡ take n plain.objects
@@ -144,14 +163,40 @@ module _ (volume : Expected) (plain : PlainState) (number : ℕ) (bytes : List �
           ∙ sym (owners_of_first plain.number plain.end first (drop size plain.entries) opening list follow inside)
           ∙ ap After (take-append-drop size plain.entries)
 
+      same_object : (other : ℕ) → plain.number < other → other ≤ number
+          → object_at (stream_in now) other ≡ object_at (stream_in plain) other
+      same_object other past most =
+          let i = other - (plain.number + 1) in
+          let inside : i < count = omega arith in
+          ap (λ n. slice_get now.objects (other - (n + 1))) opens
+          ∙ sym (get_of_first count i now.objects inside)
+          ∙ ap (λ list. slice_get list i) objects
+          ∙ get_of_first count i plain.objects inside
+
+      same_image : image_up_to now (number - 1) ≡ image_up_to plain (number - 1)
+      same_image =
+          let from = end_at (stream_in plain) (number - 1) - plain.end in
+          let grown = ends_grow (stream_in plain) (number - 1) number valid.stream.ends (omega arith) in
+          let low : from ≤ size = omega (arith, grown) in
+          ap (λ image. after image (take (end_at (stream_in now) (number - 1) - now.end) now.entries)) opening
+          ∙ ap (λ end. after plain.opening (take (end - now.end) now.entries)) (same_end (number - 1) (omega arith))
+          ∙ ap (λ end. after plain.opening (take (end_at (stream_in plain) (number - 1) - end) now.entries)) ends
+          ∙ ap (after plain.opening)
+          (sym (take-take from size now.entries low) ∙ ap (take from) entries ∙ take-take from size plain.entries low)
+
       -- each place of a checkpoint is in an earlier object
       same_place : (k : ℕ) (place : ObjectPlace) → place_owner (Some place) ≡ owners (stream_in plain) (number - 1) k
           → IsPlacedIn (stream_in plain) k place → IsPlacedIn (stream_in now) k place
       same_place k place owns placed level past =
           let owner : Owner = record { level = place.level; number = place.number } in
           let before = owners_are_past plain (number - 1) k owner blank (sym owns) in
-          placed level (omega (arith, past, opens))
-          ∙ ap (λ list. place_in_payload list k) (sym (same_entries place.number (omega (arith, before.2))))
+          let n = place.number in
+          let At : Option StreamObject → List Entry → Type 0 =
+          λ found list. IfSome found (λ object. place.sector ≡ place_in_object object.content list k) in
+          subst (λ found. At found (entries_in_object (stream_in now) n))
+          (sym (same_object n (omega (arith, past, opens)) (omega (arith, before.2))))
+          (subst (At (object_at (stream_in plain) n)) (sym (same_entries n (omega (arith, before.2))))
+          (placed level (omega (arith, past, opens))))
 
       pub later_kept : IsLaterObject volume now number bytes
       later_kept =
@@ -174,6 +219,7 @@ module _ (volume : Expected) (plain : PlainState) (number : ℕ) (bytes : List �
                 ∙ get_of_first count i plain.objects inside
                 ∙ is.there;
             rows = is.rows;
+            copied = copied_too plain now number bytes is.rows same_owners same_image is.copied;
             holds =
                 subst (λ os. Holds (end_at (stream_in now) (number - 1)) (entries_in_object (stream_in now) number) os)
                 (sym same_owners)
@@ -199,11 +245,11 @@ opening_kept volume plain now number bytes opens ends owned is = record {
 -- a volume opens where another one does, and has its objects, and maybe more
 abbrev KeepsObjects : (old new : PlainState) → Type 0
 KeepsObjects old new =
-    (new.number ≡ old.number) × (new.end ≡ old.end) × (new.owned ≡ old.owned)
+    (new.number ≡ old.number) × (new.end ≡ old.end) × (new.opening ≡ old.opening) × (new.owned ≡ old.owned)
     × ((more : List StreamObject) × (new.objects ≡ old.objects ++ more))
 
 has_same : (plain : PlainState) → KeepsObjects plain plain
-has_same plain = (refl, refl, refl, ([], sym (append-nil plain.objects)))
+has_same plain = (refl, refl, refl, refl, ([], sym (append-nil plain.objects)))
 
 either_keeps : (plain : PlainState) (b : Bool) (x y : PlainState) → KeepsObjects plain x → KeepsObjects plain y
     → KeepsObjects plain (cond b x y)
@@ -215,6 +261,24 @@ removal_keeps : (plain : PlainState) (out lowest : Option ℕ) → KeepsObjects 
 removal_keeps plain None None = has_same plain
 removal_keeps plain None (Some number) = has_same plain
 removal_keeps plain (Some other) lowest = has_same plain
+
+-- a plan of a copy, or none, and its seal
+plan_keeps : (plain : PlainState) (out : Option (List CopiedSector)) (sectors : List CopiedSector)
+    → KeepsObjects plain (with_plan out sectors plain)
+plan_keeps plain (Some plan) sectors = has_same plain
+plan_keeps plain None [] = has_same plain
+plan_keeps plain None (first ∷ more) = has_same plain
+
+copy_keeps : (plain : PlainState) (is_sealed : Bool) (out : Option (List CopiedSector))
+    → KeepsObjects plain (after_sealed_copy is_sealed out plain)
+copy_keeps plain is_sealed None = has_same plain
+copy_keeps plain false (Some plan) = has_same plain
+copy_keeps plain true (Some plan) =
+    let object : StreamObject = record {
+      content = Copy plan;
+      end = end_at (stream_in plain) (last_number (stream_in plain));
+    } in
+    (refl, refl, refl, refl, (object ∷ [], refl))
 
 keeps_objects : (plain : PlainState) (event : PlainEvent) → KeepsObjects plain (plain_after event plain)
 keeps_objects plain (Write lba body) = has_same plain
@@ -234,7 +298,7 @@ keeps_objects plain Seal =
     let object : StreamObject = record { content = Data; end = end_of_next plain } in
     either_keeps plain (has_unsealed plain && not (is_busy plain))
     (record plain { objects = plain.objects ++ object ∷ []; window = entered (plain.window.last + 1) false plain.window })
-    plain (refl, refl, refl, (object ∷ [], refl)) (has_same plain)
+    plain (refl, refl, refl, refl, (object ∷ [], refl)) (has_same plain)
 keeps_objects plain TakeJob = has_same plain
 keeps_objects plain (JobDone job) = has_same plain
 keeps_objects plain (JobFailed job) = has_same plain
@@ -245,28 +309,31 @@ keeps_objects plain SealCheckpoint =
     } in
     either_keeps plain (is_busy plain) plain
     (record plain { objects = plain.objects ++ object ∷ []; window = entered (plain.window.last + 1) true plain.window })
-    (has_same plain) (refl, refl, refl, (object ∷ [], refl))
+    (has_same plain) (refl, refl, refl, refl, (object ∷ [], refl))
 keeps_objects plain TakeRemove = removal_keeps plain plain.removal (to_remove plain)
 keeps_objects plain (RemoveDone number) =
     let gone : PlainState = record plain { removed = plain.removed ++ number ∷ []; removal = None } in
     either_keeps plain (is_out number plain.removal) gone plain (has_same plain) (has_same plain)
 keeps_objects plain (RemoveFailed number) =
     either_keeps plain (is_out number plain.removal) (record plain { removal = None }) plain (has_same plain) (has_same plain)
+keeps_objects plain PlanCopy = plan_keeps plain plain.plan (planned_copy plain)
+keeps_objects plain (SealCopy is_planned) = copy_keeps plain (is_planned && not (is_busy plain)) plain.plan
+keeps_objects plain DropPlan = has_same plain
 keeps_objects plain Status = has_same plain
 
 pub events_keep_object : EventsKeepObject
 events_keep_object volume plain number bytes event valid blank (inl is) =
     let keeps = keeps_objects plain event in
-    inl (opening_kept volume plain (plain_after event plain) number bytes keeps.0 keeps.1 keeps.2 is)
+    inl (opening_kept volume plain (plain_after event plain) number bytes keeps.0 keeps.1 keeps.3 is)
 events_keep_object volume plain number bytes event valid blank (inr is) =
     let now = plain_after event plain in
     let keeps = keeps_objects plain event in
     let grows = (events_keep_committed plain event valid).1 in
     let first = number - plain.number in
     let held = end_at (stream_in plain) number - plain.end in
-    inr (later_kept volume plain number bytes valid blank is now keeps.0 keeps.1 keeps.2
-    (ap (take first) keeps.3.1
-    ∙ take-append-le first plain.objects keeps.3.0 (count_within volume plain number bytes valid blank is))
+    inr (later_kept volume plain number bytes valid blank is now keeps.0 keeps.1 keeps.2 keeps.3
+    (ap (take first) keeps.4.1
+    ∙ take-append-le first plain.objects keeps.4.0 (count_within volume plain number bytes valid blank is))
     (ap (take held) grows.1
     ∙ take-append-le held plain.entries grows.0 (size_within volume plain number bytes valid blank is)))
 
@@ -275,16 +342,16 @@ events_keep_object volume plain number bytes event valid blank (inr is) =
 -- a volume that keeps its objects up to a number, and the entries in them at least, keeps the objects up to there
 cut_keeps : (volume : Expected) (plain now : PlainState) (last number to : ℕ) (bytes : List ℕ) → IsPlainVolume plain
     → OpensBlank plain → number ≤ last → end_at (stream_in plain) last ≤ to
-    → now.number ≡ plain.number → now.end ≡ plain.end → now.owned ≡ plain.owned
+    → now.number ≡ plain.number → now.end ≡ plain.end → now.opening ≡ plain.opening → now.owned ≡ plain.owned
     → now.objects ≡ take (last - plain.number) plain.objects → now.entries ≡ take (to - plain.end) plain.entries
     → IsObjectOf volume plain number bytes → IsObjectOf volume now number bytes
-cut_keeps volume plain now last number to bytes valid blank low high opens ends owned objects entries (inl is) =
+cut_keeps volume plain now last number to bytes valid blank low high opens ends opening owned objects entries (inl is) =
     inl (opening_kept volume plain now number bytes opens ends owned is)
-cut_keeps volume plain now last number to bytes valid blank low high opens ends owned objects entries (inr is) =
+cut_keeps volume plain now last number to bytes valid blank low high opens ends opening owned objects entries (inr is) =
     let first = number - plain.number in
     let held = end_at (stream_in plain) number - plain.end in
     let grown = ends_grow (stream_in plain) number last valid.stream.ends low in
-    inr (later_kept volume plain number bytes valid blank is now opens ends owned
+    inr (later_kept volume plain number bytes valid blank is now opens ends opening owned
     (ap (take first) objects ∙ take-take first (last - plain.number) plain.objects (omega arith))
     (ap (take held) entries ∙ take-take held (to - plain.end) plain.entries (omega (arith, grown))))
 
@@ -292,7 +359,7 @@ pub mounts_keep_object : MountsKeepObject
 mounts_keep_object volume plain landed found log number bytes valid blank may low is =
     let last = recovered_number landed plain in (
       cut_keeps volume plain (mounted_from landed found plain) last number (kept_count landed found plain) bytes valid blank low
-          (omega arith) refl refl refl refl refl is,
+          (omega arith) refl refl refl refl refl refl is,
       cut_keeps volume plain (mounted_on log landed plain) last number (recovered_end landed plain) bytes valid blank low
-          (omega arith) refl refl refl refl refl is,
+          (omega arith) refl refl refl refl refl refl is,
     )

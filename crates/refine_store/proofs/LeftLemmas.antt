@@ -9,7 +9,7 @@ use Rattle.std.proofs.lemmas.List.Elements.{All-nil, All-cons, All-weaker}
 use Rattle.std.proofs.lemmas.List.Folds.{list_any_at}
 use Rattle.lsvd_objstore.specs.Objects.{Objects, found}
 use Rattle.object_format.specs.declared.expected.Expected.{Expected}
-use Rattle.object_format.specs.declared.rows.Rows.TheVariants as rows_of
+use Rattle.object_stream.specs.declared.object.Content.{Content}
 use Rattle.object_stream.specs.Landed.{Numbers}
 use Rattle.object_stream.specs.Replay.{object_name, expected_at}
 use Rattle.object_stream.specs.Stream.{end_at, entries_in_object}
@@ -30,8 +30,8 @@ use Rattle.plain_disk.proofs.MarkedLemmas.{first_of, none_later}
 use Rattle.refine_store.specs.Puts.{IsObjectOf, state_of_put, AreBytesOfPut, ArePuts, MayBeLeft}
 use Rattle.refine_store.specs.Stored.{HasVolumeUpTo}
 use Rattle.refine_store.specs.Laws.{LeftHasVolume}
-use Rattle.refine_store.proofs.DataLemmas.{HasData, no_data}
-use Rattle.refine_store.proofs.NewestLemmas.{base_from, data_past, first_missing}
+use Rattle.refine_store.proofs.DataLemmas.{HasSectors, no_sectors}
+use Rattle.refine_store.proofs.NewestLemmas.{base_from, sectors_past, first_missing}
 
 -- ---- the objects of puts
 
@@ -218,24 +218,25 @@ module _ (uuid : List ℕ) (epoch : ℕ) (plain : PlainState) (puts : ℕ → Op
   abbrev number : ℕ
   number = recovered_number landed plain
 
-  -- what is past the newest checkpoint is data
-  data_there : (other : ℕ) (bytes : List ℕ) → base < other → found objects (object_name volume other) ≡ Some bytes
-      → (end : ℕ) × HasData (expected_at volume other (end_at (stream_in plain) (other - 1)))
+  -- what is past the newest checkpoint is data or a copy
+  sectors_there : (other : ℕ) (bytes : List ℕ) → base < other → found objects (object_name volume other) ≡ Some bytes
+      → (content : Content) × (end : ℕ) × HasSectors (expected_at volume other (end_at (stream_in plain) (other - 1))) content
       (entries_in_object (stream_in plain) other) end bytes
-  data_there other bytes past there =
+  sectors_there other bytes past there =
       let landed_there : landed other ≡ true = ap is_some there in
       let object = landed_object other landed_there in
       let same : object.0 ≡ bytes = let e = object.1 in cc in
       let from = base_from plain landed valid left.blank left.seals may_land in
       let Result : List ℕ → Type 0 =
-      λ b. (end : ℕ) × HasData (expected_at volume other (end_at (stream_in plain) (other - 1)))
+      λ b. (content : Content) × (end : ℕ) × HasSectors (expected_at volume other (end_at (stream_in plain) (other - 1))) content
       (entries_in_object (stream_in plain) other) end b in
       subst Result same (elim object.2 [
         | inl first ↦ absurd (omega (arith, first.first, past, from.0, from.1))
-        | inr is ↦
-            let data_is = data_past plain landed valid left.blank left.seals may_land volume other object.0 past landed_there
-            is in
-            (is.object.end, data_is.1)
+        | inr is ↦ (
+          is.object.content,
+          is.object.end,
+          sectors_past plain landed valid left.blank left.seals may_land volume other object.0 past landed_there is,
+        )
       ])
 
   has_volume : HasVolumeUpTo uuid epoch plain landed objects
@@ -252,13 +253,13 @@ module _ (uuid : List ℕ) (epoch : ℕ) (plain : PlainState) (puts : ℕ → Op
         missing = none_of (found objects (object_name volume (number + 1)))
             (first_missing plain landed valid left.blank left.seals may_land).absent;
         past = λ other bytes after there.
-            (let data_is = data_there other bytes (omega (arith, after, from.3)) there in
-            is_whole volume other (end_at (stream_in plain) (other - 1)) bytes data_is.1.header (rows_of.Data data_is.1.rows)
-            data_is.1.payload data_is.1.parts);
+            (let has = sectors_there other bytes (omega (arith, after, from.3)) there in
+            is_whole volume other (end_at (stream_in plain) (other - 1)) bytes has.2.header has.2.rows has.2.payload
+            has.2.parts);
         no_checkpoint = λ other end owned after is.
-            (let data_is = data_there other is.bytes (omega (arith, after, from.3)) is.present in
-            no_data volume objects other end (end_at (stream_in plain) (other - 1)) data_is.0 owned
-            (entries_in_object (stream_in plain) other) is.bytes is is.present data_is.1);
+            (let has = sectors_there other is.bytes (omega (arith, after, from.3)) is.present in
+            no_sectors volume objects other end (end_at (stream_in plain) (other - 1)) has.1 owned has.0
+            (entries_in_object (stream_in plain) other) is.bytes is is.present has.2);
       }
 
 pub left_has_volume : LeftHasVolume

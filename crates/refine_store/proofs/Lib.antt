@@ -11,3 +11,4 @@ pub mod OwnerLemmas
 pub mod VolumeLemmas
 pub mod LeftLemmas
 pub mod StandLemmas
+pub mod PayloadLemmas

@@ -3,7 +3,7 @@ use Rattle.std.proofs.Common.{◌≡◌, ℕ, ◌+◌, ◌-◌, ◌<◌, ◌≤�
 use Rattle.std.specs.Prelude.{IsTrue}
 use Rattle.std.specs.List.{slice_get}
 use Rattle.object_format.specs.declared.expected.Expected.{Expected}
-use Rattle.object_stream.specs.declared.object.Content.TheVariants.{Data, Checkpoint}
+use Rattle.object_stream.specs.declared.object.Content.TheVariants.{Checkpoint}
 use Rattle.object_stream.specs.declared.object.StreamObject.{StreamObject}
 use Rattle.object_stream.specs.Landed.{Numbers, IsFirstMissing}
 use Rattle.object_stream.specs.Replay.{expected_at}
@@ -16,7 +16,7 @@ use Rattle.plain_disk.specs.Valid.{IsPlainVolume, MayLand, is_checkpoint_from}
 use Rattle.plain_disk.proofs.CheckpointLemmas.{landed_is, landed_from}
 use Rattle.plain_disk.proofs.StopLemmas.{newest_of_all, recovers_base, recovers_before_missing, have_landed}
 use Rattle.refine_store.specs.Puts.{IsLaterObject}
-use Rattle.refine_store.proofs.DataLemmas.{HasData, data_of_content, checkpoint_object}
+use Rattle.refine_store.proofs.DataLemmas.{HasSectors, sectors_of_content, checkpoint_object}
 
 module _ (plain : PlainState) (landed : Numbers) (valid : IsPlainVolume plain) (blank : OpensBlank plain)
     (seals : SealsCheckpoints plain) (may : MayLand plain landed) where
@@ -37,24 +37,27 @@ module _ (plain : PlainState) (landed : Numbers) (valid : IsPlainVolume plain) (
       (at ∙ ap Some (checkpoint_object object is)) in
       newest_of_all plain landed other valid marked there
 
-  -- so what has landed past it is data
-  pub data_past : (volume : Expected) (other : ℕ) (bytes : List ℕ) → base < other → IsTrue (landed other)
-      → (is : IsLaterObject volume plain other bytes)
-      → (is.object.content ≡ Data)
-      × HasData (expected_at volume other (end_at (stream_in plain) (other - 1))) (entries_in_object (stream_in plain) other)
-      is.object.end bytes
-  data_past volume other bytes past there is =
+  -- so what has landed past it is none, but data or a copy
+  pub none_past : (volume : Expected) (other : ℕ) (bytes : List ℕ) → base < other → IsTrue (landed other)
+      → (is : IsLaterObject volume plain other bytes) → is.object.content ≡ Checkpoint → ⊥
+  none_past volume other bytes past there is kind =
       let from = base_from in
-      data_of_content (stream_in plain) (expected_at volume other (end_at (stream_in plain) (other - 1))) is.object.content
-      (entries_in_object (stream_in plain) other) (owners (stream_in plain) (other - 1)) is.object.end bytes is.rows
-      (λ kind. absurd (omega (
+      absurd (omega (
         arith,
         past,
         from.1,
         no_newer other is.object (omega (arith, past, from.1))
             (omega (arith, past, from.2)) there is.there kind,
-      )))
-      is.holds
+      ))
+
+  pub sectors_past : (volume : Expected) (other : ℕ) (bytes : List ℕ) → base < other → IsTrue (landed other)
+      → (is : IsLaterObject volume plain other bytes)
+      → HasSectors (expected_at volume other (end_at (stream_in plain) (other - 1))) is.object.content
+      (entries_in_object (stream_in plain) other) is.object.end bytes
+  sectors_past volume other bytes past there is =
+      sectors_of_content (stream_in plain) (expected_at volume other (end_at (stream_in plain) (other - 1))) is.object.content
+      (entries_in_object (stream_in plain) other) (owners (stream_in plain) (other - 1)) is.object.end bytes is.rows
+      (none_past volume other bytes past there is) is.holds
 
   -- each object past it has landed, up to the one before the first missing number
   pub landed_past : (other : ℕ) → base < other → other ≤ number → IsTrue (landed other)

@@ -1,22 +1,24 @@
 -- The objects that the newest checkpoint of a stopped store names are there, and have the sectors of the image.
 use Rattle.std.proofs.Common.{◌≡◌, ℕ, ◌-◌, ◌^◌, ◌<◌, ◌≤◌, inl, inr, true, Option, Some, None, List, refl, sym, ◌∙◌}
 use Rattle.std.proofs.Common.{ap, subst, arith, get_or}
-use Rattle.std.specs.Prelude.{option_map}
+use Rattle.std.specs.Prelude.{option_map, IfSome}
 use Rattle.std.specs.List.{slice_get}
 use Rattle.std.proofs.lemmas.Bool.Decides.{nat_tests}
 use Rattle.lsvd_base.specs.Image.{Image}
 use Rattle.lsvd_objstore.specs.Objects.{Objects, found}
 use Rattle.object_format.specs.declared.expected.Expected.{Expected}
-use Rattle.object_format.specs.declared.rows.Rows.TheVariants as rows_of
-use Rattle.object_stream.specs.declared.change.Change.TheVariants.{Put}
-use Rattle.object_stream.specs.declared.object.Content.TheVariants.{Data}
+use Rattle.object_stream.specs.declared.object.Content.{Content}
+use Rattle.object_stream.specs.declared.object.Content.TheVariants.{Data, Copy, Checkpoint}
+use Rattle.object_stream.specs.declared.object.StreamObject.{StreamObject}
 use Rattle.object_stream.specs.declared.owner.Owner.{Owner}
-use Rattle.object_stream.specs.Changes.{sector_of, change_at}
+use Rattle.object_stream.specs.Changes.{sector_of}
 use Rattle.object_stream.specs.Landed.{Numbers}
 use Rattle.object_stream.specs.Replay.{object_name, expected_at}
-use Rattle.object_stream.specs.Stream.{Stream, owners, end_at, is_own, entries_in_object}
-use Rattle.object_stream.specs.Value.{sector_put, HasSector, StandsForSector}
+use Rattle.object_stream.specs.Stream.{Stream, owners, end_at, is_own, entries_in_object, place_in_copy, place_in_object}
+use Rattle.object_stream.specs.Value.{HasSector, StandsForSector}
+use Rattle.object_uploads.specs.declared.rows.SealedRows.{SealedRows}
 use Rattle.object_uploads.specs.Checkpoint.{mapped_place}
+use Rattle.object_uploads.specs.Stream.{object_at, HoldsContent}
 use Rattle.stopped_volume.specs.Opening.{stored_owner, HoldPlaces}
 use Rattle.object_recovery.specs.Checkpoints.{expected_of}
 use Rattle.plain_disk.specs.State.{PlainState, stream_in}
@@ -28,12 +30,12 @@ use Rattle.plain_disk.proofs.CheckpointLemmas.{landed_is, owns_some}
 use Rattle.plain_disk.proofs.OpeningLemmas.{owners_are_past}
 use Rattle.plain_disk.proofs.Overlaid.{sectors_limit}
 use Rattle.plain_disk.proofs.SealedLemmas.{mapped_have_landed}
-use Rattle.refine_store.specs.Puts.{IsLaterObject}
+use Rattle.refine_store.specs.Puts.{HasSourceSectors, IsLaterObject}
 use Rattle.refine_store.specs.Stored.{HasVolumeUpTo}
 use Rattle.refine_store.proofs.BaseLemmas.{base_sealed, HasBase, has_base}
-use Rattle.refine_store.proofs.DataLemmas.{HasData, data_of_content}
+use Rattle.refine_store.proofs.DataLemmas.{HasSectors, sectors_of_content, copy_sector}
 use Rattle.refine_store.proofs.NewestLemmas.{base_from}
-use Rattle.refine_store.proofs.PlaceLemmas.{has_at_place, place_inside}
+use Rattle.refine_store.proofs.PlaceLemmas.{HasPlace, place_of_data, place_of_copy}
 use Rattle.refine_store.proofs.ValueLemmas.{image_at, PutIn, OwnsBy, owns_at}
 
 own_test : (owner : Owner) → owner.level ≡ 0 → is_own owner.number (Some owner) ≡ true
@@ -60,43 +62,70 @@ module _ (uuid : List ℕ) (epoch : ℕ) (plain : PlainState) (landed : Numbers)
   wide : plain.geometry.sectors < 2 ^ 64
   wide = omega (arith, sectors_limit plain.geometry valid.limits)
 
-  -- The object that owns a sector is there: a data object, whose entries put it.
+  -- An object has a sector that it owns, in its rows and at its place, and it is an image's.
+  pub record HasOwn (shown : Image) (content : Content) (n k end : ℕ) (bytes : List ℕ) : Type 0 where
+    pub object : HasSectors (expected_at volume n (end_at stream (n - 1))) content (entries_in_object stream n) end bytes
+    pub sector : List ℕ
+    pub placed : HasPlace content (entries_in_object stream n) object.header object.rows object.payload k sector
+    pub image_has : (s : List ℕ) → slice_get shown k ≡ Some s → s ≡ sector
+
+  pub own_sector : (shown : Image) (content : Content) (n k end : ℕ) (bytes : List ℕ) (rows : SealedRows)
+      → HoldsContent stream (expected_at volume n (end_at stream (n - 1))) content (entries_in_object stream n)
+      (owners stream (n - 1)) end bytes rows
+      → HasSourceSectors plain n bytes rows → PutIn plain valid has.blank content n k shown
+      → HasOwn shown content n k end bytes
+  own_sector shown Data n k end bytes rows holds copied put =
+      let expected : Expected = expected_at volume n (end_at stream (n - 1)) in
+      let own = entries_in_object stream n in
+      let object = sectors_of_content stream expected Data own (owners stream (n - 1)) end bytes rows (λ kind. cc) holds in
+      record {
+        object = object;
+        sector = put.0;
+        placed = place_of_data expected own end bytes object k put.0 put.1;
+        image_has = put.2;
+      }
+  own_sector shown (Copy pairs) n k end bytes rows holds copied put =
+      let expected : Expected = expected_at volume n (end_at stream (n - 1)) in
+      let own = entries_in_object stream n in
+      let before = owners stream (n - 1) in
+      let object = sectors_of_content stream expected (Copy pairs) own before end bytes rows (λ kind. cc) holds in
+      let placed = place_of_copy expected pairs own end bytes object k put.0 put.1 in
+      record {
+        object = object;
+        sector = sector_of (place_in_copy pairs k) object.payload;
+        placed = placed;
+        image_has = λ s at.
+            (let there = copy_sector plain n expected pairs own before end bytes rows (λ kind. cc) holds copied k put.0 s put.1
+            put.2 (put.3 s at) in
+            let same : Some (sector_of (place_in_copy pairs k) object.payload) ≡ Some s = sym placed.has ∙ there in
+            cc);
+      }
+  own_sector shown Checkpoint n k end bytes rows holds copied put = absurd put
+
+  -- the object that owns a sector is there
   pub record IsOwnerThere (owner : Owner) (k : ℕ) : Type 0 where
     level : owner.level ≡ 0
     past : 1 < owner.number
     bytes : List ℕ
     present : found objects (object_name volume owner.number) ≡ Some bytes
-    end : ℕ
-    object : HasData (expected_at volume owner.number (end_at stream (owner.number - 1)))
-        (entries_in_object stream owner.number) end bytes
-    sector : List ℕ
-    puts : change_at (entries_in_object stream owner.number) k ≡ Some (Put sector)
-    image_has : (s : List ℕ) → slice_get image k ≡ Some s → s ≡ sector
+    object : StreamObject
+    there : object_at stream owner.number ≡ Some object
+    own : HasOwn image object.content owner.number k object.end bytes
 
   owner_in : (owner : Owner) (k : ℕ) → owner.level ≡ 0 → 1 < owner.number → OwnsBy plain valid has.blank (Some owner) k image
       → (bytes : List ℕ) → found objects (object_name volume owner.number) ≡ Some bytes
       → IsLaterObject volume plain owner.number bytes
       → IsOwnerThere owner k
-  owner_in owner k level past owns bytes present is =
-      let n = owner.number in
-      let before = end_at stream (n - 1) in
-      let put = owns is.object is.there in
-      let data_is = data_of_content stream (expected_at volume n before) is.object.content (entries_in_object stream n)
-      (owners stream (n - 1)) is.object.end bytes is.rows
-      (λ kind. subst (λ c. PutIn plain valid has.blank c n k image) kind put) is.holds in
-      let own : PutIn plain valid has.blank Data n k image =
-      subst (λ c. PutIn plain valid has.blank c n k image) data_is.0 put in
-      record {
-        level = level;
-        past = past;
-        bytes = bytes;
-        present = present;
-        end = is.object.end;
-        object = data_is.1;
-        sector = own.0;
-        puts = own.1;
-        image_has = own.2;
-      }
+  owner_in owner k level past owns bytes present is = record {
+    level = level;
+    past = past;
+    bytes = bytes;
+    present = present;
+    object = is.object;
+    there = is.there;
+    own = own_sector image is.object.content owner.number k is.object.end bytes is.rows is.holds is.copied
+        (owns is.object is.there);
+  }
 
   owner_there : (owner : Owner) (k : ℕ) → owners stream base k ≡ Some owner → IsOwnerThere owner k
   owner_there owner k owns =
@@ -119,7 +148,7 @@ module _ (uuid : List ℕ) (epoch : ℕ) (plain : PlainState) (landed : Numbers)
         | inr is ↦ owner_in owner k past.0 past.1 by object.0 object.1 is
       ]
 
-  abbrev sector_there : (owner : Owner) (k : ℕ) → (is : IsOwnerThere owner k) → HasSector objects uuid_at owner k is.sector
+  abbrev sector_there : (owner : Owner) (k : ℕ) → (is : IsOwnerThere owner k) → HasSector objects uuid_at owner k is.own.sector
   sector_there owner k is = record {
     expected = expected_at volume owner.number (end_at stream (owner.number - 1));
     wide = wide;
@@ -127,11 +156,11 @@ module _ (uuid : List ℕ) (epoch : ℕ) (plain : PlainState) (landed : Numbers)
     number = refl;
     bytes = is.bytes;
     present = is.present;
-    header = is.object.header;
-    rows = rows_of.Data is.object.rows;
-    payload = is.object.payload;
-    parts = is.object.parts;
-    has = ap sector_put (is.object.changes k ∙ is.puts);
+    header = is.own.object.header;
+    rows = is.own.object.rows;
+    payload = is.own.object.payload;
+    parts = is.own.object.parts;
+    has = is.own.placed.has;
   }
 
   -- ---- the value
@@ -142,7 +171,7 @@ module _ (uuid : List ℕ) (epoch : ℕ) (plain : PlainState) (landed : Numbers)
   stands_by None k sector owns at by = by sector at
   stands_by (Some owner) k sector owns at by =
       let is = owner_there owner k owns in
-      subst (HasSector objects uuid_at owner k) (sym (is.image_has sector at)) (sector_there owner k is)
+      subst (HasSector objects uuid_at owner k) (sym (is.own.image_has sector at)) (sector_there owner k is)
 
   pub stands_for : (k : ℕ) (sector : List ℕ) → slice_get image k ≡ Some sector
       → StandsForSector objects uuid_at (owners stream base k) k sector
@@ -164,15 +193,16 @@ module _ (uuid : List ℕ) (epoch : ℕ) (plain : PlainState) (landed : Numbers)
       let own = entries_in_object stream n in
       let is : IsOwnerThere owner k = owner_there owner k (there.is.says k ∙ ap (option_map stored_owner) at) in
       let from = base_from plain landed valid has.blank has.seals has.may in
-      let before = end_at stream (n - 1) in
       let placed = there.is.placed k (mapped_place place) (ap (option_map mapped_place) at) is.level
       (omega (arith, is.past, from.0)) in
-      let sector = has_at_place (expected_at volume n before) own is.end is.bytes is.object k is.sector is.puts in
-      let inside = place_inside (expected_at volume n before) own is.end is.bytes is.object k is.sector is.puts in
+      let same : place.place ≡ place_in_object is.object.content own k =
+      subst (λ (o : Option StreamObject). IfSome o (λ object. place.place ≡ place_in_object object.content own k)) is.there
+      placed in
+      let inside = is.own.placed.inside in
       record {
         numbered = omega (arith, is.past);
-        sector = is.sector;
+        sector = is.own.sector;
         has = sector_there owner k is;
-        inside = omega (arith, placed, inside);
-        at = ap (λ at_place. sector_of at_place is.object.payload) placed ∙ sector;
+        inside = omega (arith, same, inside);
+        at = ap (λ at_place. sector_of at_place is.own.object.payload) same ∙ is.own.placed.at;
       }

@@ -30,7 +30,7 @@ use Rattle.stopped_volume.specs.Super.{HasVolume}
 use Rattle.refine_store.specs.Puts.{IsObjectOf, state_of_put, AreBytesOfPut, ArePuts, MayBeLeft}
 use Rattle.refine_store.specs.Stored.{StoreStands, HasVolumeUpTo, HasNonePast}
 use Rattle.refine_store.specs.Laws.{MountedStands, StandsWithAnyCache}
-use Rattle.refine_store.proofs.KeepLemmas.{mounts_keep_object}
+use Rattle.refine_store.proofs.KeepLemmas.{copied_too, mounts_keep_object}
 
 -- ---- puts of what the store has
 
@@ -208,6 +208,7 @@ object_with cache expected plain n bytes (inr is) = inr (record {
   there = is.there;
   rows = is.rows;
   holds = is.holds;
+  copied = copied_too plain (record plain { cache = cache }) n bytes is.rows refl refl is.copied;
 })
 
 bytes_with : (cache : PlainCache) (state : PutState) (expected : Expected) (plain : PlainState) (n : ℕ) (bytes : List ℕ)
@@ -234,7 +235,13 @@ stands_with_any_cache uuid epoch plain cache uploads objects stands =
       };
       left = record {
         described = stands.left.described;
-        blank = record { number = blank.number; end = blank.end; opening = blank.opening; owned = blank.owned };
+        blank = record {
+          number = blank.number;
+          end = blank.end;
+          opening = blank.opening;
+          owned = blank.owned;
+          payloads = blank.payloads;
+        };
         seals = record { sealed = seals.sealed; marked = seals.marked; removed = seals.removed; out = seals.out };
         held = stands.left.held;
       };

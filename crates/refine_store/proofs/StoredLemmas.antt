@@ -8,7 +8,8 @@ use Rattle.object_format.specs.declared.expected.Expected.{Expected}
 use Rattle.object_stream.specs.declared.object.StreamObject.{StreamObject}
 use Rattle.object_stream.specs.Replay.{expected_at}
 use Rattle.object_stream.specs.Stored.{IsObjectStored, AreStored}
-use Rattle.object_stream.specs.Stream.{Stream, end_after, end_at, EndsFollow, entries_in_object}
+use Rattle.object_stream.specs.Stream.{Stream, Owners, after_object, after_objects, end_after, end_at, EndsFollow}
+use Rattle.object_stream.specs.Stream.{entries_in_object}
 use Rattle.plain_disk.specs.State.{PlainState, stream_in}
 use Rattle.refine_store.proofs.ObjectLemmas.{end_up_to, entries_at, entries_past_first, entries_of_first}
 
@@ -17,41 +18,52 @@ use Rattle.refine_store.proofs.ObjectLemmas.{end_up_to, entries_at, entries_past
 -- objects are stored where each is
 module _ (objects : Objects) (uuid_at : ℕ → Option (List ℕ)) (volume : Expected) where
   -- the object at an index is stored
-  abbrev pub IsStoredAt : (number end : ℕ) → List Entry → List StreamObject → ℕ → StreamObject → Type 0
-  IsStoredAt number end entries list i object =
-      IsObjectStored objects uuid_at (expected_at volume (number + 1 + i) (end_after end (take i list))) object
-      (entries_at end entries list i object)
+  abbrev pub IsStoredAt : (number end : ℕ) → List Entry → Owners → List StreamObject → ℕ → StreamObject → Type 0
+  IsStoredAt number end entries before list i object =
+      IsObjectStored objects uuid_at (expected_at volume (number + 1 + i) (end_after end (take i list)))
+      (after_objects number end entries before (take i list)) object (entries_at end entries list i object)
 
-  stored_past_first : (number end : ℕ) (entries : List Entry) (first object : StreamObject) (i : ℕ) (more : List StreamObject)
-      → EndsFollow end (first ∷ more) → IsStoredAt number end entries (first ∷ more) (suc i) object
-      → IsStoredAt (number + 1) first.end (drop (first.end - end) entries) more i object
-  stored_past_first number end entries first object i more follow is =
-      let before = end_after first.end (take i more) in
+  -- the owners after the first object
+  abbrev after_first : (number end : ℕ) → List Entry → Owners → StreamObject → Owners
+  after_first number end entries before first =
+      after_object (number + 1) first.content (take (first.end - end) entries) before
+
+  stored_past_first : (number end : ℕ) (entries : List Entry) (before : Owners) (first object : StreamObject) (i : ℕ)
+      (more : List StreamObject)
+      → EndsFollow end (first ∷ more) → IsStoredAt number end entries before (first ∷ more) (suc i) object
+      → IsStoredAt (number + 1) first.end (drop (first.end - end) entries) (after_first number end entries before first) more i
+      object
+  stored_past_first number end entries before first object i more follow is =
+      let last = end_after first.end (take i more) in
+      let owned = after_objects number end entries before (first ∷ take i more) in
       let sum : number + 1 + suc i ≡ number + 1 + 1 + i = omega arith in
       let part = entries_at first.end (drop (first.end - end) entries) more i object in
-      subst (λ n. IsObjectStored objects uuid_at (expected_at volume n before) object part) sum
-      (subst (λ list. IsObjectStored objects uuid_at (expected_at volume (number + 1 + suc i) before) object list)
+      subst (λ n. IsObjectStored objects uuid_at (expected_at volume n last) owned object part) sum
+      (subst (λ list. IsObjectStored objects uuid_at (expected_at volume (number + 1 + suc i) last) owned object list)
       (sym (entries_past_first end entries first object i more follow)) is)
 
-  stored_is_first : (number end : ℕ) (entries : List Entry) (object : StreamObject) (more : List StreamObject)
-      → IsStoredAt number end entries (object ∷ more) 0 object
-      → IsObjectStored objects uuid_at (expected_at volume (number + 1) end) object (take (object.end - end) entries)
-  stored_is_first number end entries object more is =
+  stored_is_first : (number end : ℕ) (entries : List Entry) (before : Owners) (object : StreamObject) (more : List StreamObject)
+      → IsStoredAt number end entries before (object ∷ more) 0 object
+      → IsObjectStored objects uuid_at (expected_at volume (number + 1) end) before object (take (object.end - end) entries)
+  stored_is_first number end entries before object more is =
       let sum : number + 1 + 0 ≡ number + 1 = omega arith in
-      subst (λ n. IsObjectStored objects uuid_at (expected_at volume n end) object (take (object.end - end) entries)) sum
-      (subst (λ list. IsObjectStored objects uuid_at (expected_at volume (number + 1 + 0) end) object list)
+      subst (λ n. IsObjectStored objects uuid_at (expected_at volume n end) before object (take (object.end - end) entries)) sum
+      (subst (λ list. IsObjectStored objects uuid_at (expected_at volume (number + 1 + 0) end) before object list)
       (sym (entries_of_first end entries object more)) is)
 
-  pub stored_by_each : (count number end : ℕ) (entries : List Entry) (list : List StreamObject) → EndsFollow end list
+  pub stored_by_each : (count number end : ℕ) (entries : List Entry) (before : Owners) (list : List StreamObject)
+      → EndsFollow end list
       → ((i : ℕ) (object : StreamObject) → i < count → slice_get list i ≡ Some object
-      → IsStoredAt number end entries list i object)
-      → AreStored objects uuid_at volume number end entries (take count list)
-  stored_by_each zero number end entries list follow each = tt
-  stored_by_each (suc count) number end entries [] follow each = tt
-  stored_by_each (suc count) number end entries (object ∷ more) follow each = (
-    stored_is_first number end entries object more (each 0 object (omega arith) refl),
-    stored_by_each count (number + 1) object.end (drop (object.end - end) entries) more follow.1
-        (λ i other low at. stored_past_first number end entries object other i more follow (each (suc i) other (omega arith) at)),
+      → IsStoredAt number end entries before list i object)
+      → AreStored objects uuid_at volume number end entries before (take count list)
+  stored_by_each zero number end entries before list follow each = tt
+  stored_by_each (suc count) number end entries before [] follow each = tt
+  stored_by_each (suc count) number end entries before (object ∷ more) follow each = (
+    stored_is_first number end entries before object more (each 0 object (omega arith) refl),
+    stored_by_each count (number + 1) object.end (drop (object.end - end) entries) (after_first number end entries before object)
+        more follow.1
+        (λ i other low at.
+        stored_past_first number end entries before object other i more follow (each (suc i) other (omega arith) at)),
   )
 
 -- ---- in a plain volume

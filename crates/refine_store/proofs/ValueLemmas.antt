@@ -3,6 +3,7 @@
 use Rattle.std.proofs.Common.{◌≡◌, ℕ, zero, suc, ◌+◌, ◌-◌, ◌<◌, ◌≤◌, Bool, true, false, cond, Option, Some, None, List, [], ◌∷◌}
 use Rattle.std.proofs.Common.{length, take, drop, get_or, refl, sym, ◌∙◌, ap, subst, arith}
 use Rattle.std.specs.List.{slice_get, All}
+use Rattle.std.proofs.lemmas.Bool.Decides.{nat_tests}
 use Rattle.std.proofs.lemmas.List.Elements.{All-take, All-drop, All-weaker}
 use Rattle.std.proofs.lemmas.Option.{slice_get_within}
 use Rattle.std.proofs.Math.Seq.{take-add}
@@ -13,6 +14,7 @@ use Rattle.lsvd_base.specs.Range.{is_in_range}
 use Rattle.lsvd_base.proofs.SectorLemmas.{applies_in_parts}
 use Rattle.object_stream.specs.declared.change.Change.{Change}
 use Rattle.object_stream.specs.declared.change.Change.TheVariants.{Put, Clear}
+use Rattle.object_stream.specs.declared.object.CopiedSector.{CopiedSector}
 use Rattle.object_stream.specs.declared.object.Content.{Content}
 use Rattle.object_stream.specs.declared.object.Content.TheVariants.{Data, Copy, Checkpoint}
 use Rattle.object_stream.specs.declared.object.StreamObject.{StreamObject}
@@ -28,6 +30,7 @@ use Rattle.plain_disk.specs.State.{PlainState, OpensBlank, stream_in}
 use Rattle.plain_disk.specs.Valid.{IsPlainVolume}
 use Rattle.plain_disk.proofs.EndLemmas.{ends_grow, ends_from}
 use Rattle.plain_disk.proofs.Overlaid.{EndsBy-in_range}
+use Rattle.refine_store.specs.Puts.{image_up_to}
 use Rattle.refine_store.proofs.ObjectLemmas.{end_up_to}
 use Rattle.refine_store.proofs.StoredLemmas.{get_within}
 
@@ -66,23 +69,47 @@ goes_at zero end (first ∷ more) object follow at =
     let same : first ≡ object = cc in subst (λ (o : StreamObject). GoesTo o.content end o.end) same follow.0
 goes_at (suc i) end (first ∷ more) object follow at = goes_at i first.end more object follow.1 at
 
+own_owner : (owner : Owner) (source : ℕ) → is_own source (Some owner) ≡ true → owner ≡ record { level = 0; number = source }
+own_owner owner source own = grind (arith, nat_tests)
+
+-- an owner that is the volume's own object of a number
+pub owner_of : (source : ℕ) (owner : Option Owner) → is_own source owner ≡ true
+    → owner ≡ Some (record { level = 0; number = source })
+owner_of source None own = absurd (cc)
+owner_of source (Some owner) own = ap Some (own_owner owner source own)
+
+-- the image after the entries of objects has as many sectors as the volume
+pub long_image : (plain : PlainState) → IsPlainVolume plain → (number : ℕ)
+    → length (image_up_to plain number) ≡ plain.geometry.sectors
+long_image plain valid number =
+    let g = plain.geometry in
+    let count = end_at (stream_in plain) number - plain.end in
+    let first = take count plain.entries in
+    let all = All-weaker (λ entry. is_in_range g entry ≡ true) (EndsBy g.sectors) (EndsBy-in_range g) plain.entries
+    valid.in_range in
+    let inside : All (EndsBy (length plain.opening)) first =
+    subst (λ m. All (EndsBy m) first) (sym valid.sectors) (All-take (EndsBy g.sectors) count plain.entries all) in
+    length-after plain.opening first inside ∙ valid.sectors
+
 module _ (plain : PlainState) (valid : IsPlainVolume plain) (blank_is : OpensBlank plain) where
   abbrev stream : Stream
   stream = stream_in plain
 
   -- the image after the entries of the objects up to a number
   abbrev pub image_at : ℕ → Image
-  image_at number = after plain.opening (take (end_at stream number - plain.end) plain.entries)
+  image_at number = image_up_to plain number
 
   -- ---- what an owner put
 
-  -- An object of this content put a sector that an image has, if the image has it at all. Of a copy nothing is said, and a
-  -- checkpoint puts none.
+  -- An object of this content put a sector that an image has, if the image has it at all. A copy has it from the source that
+  -- owned it before, and the image had it then. A checkpoint puts none.
   abbrev pub PutIn : Content → (number k : ℕ) → Image → Type 0
   PutIn Data number k image =
       (sector : List ℕ) × (change_at (entries_in_object stream number) k ≡ Some (Put sector))
       × ((s : List ℕ) → slice_get image k ≡ Some s → s ≡ sector)
-  PutIn (Copy pairs) number k image = Unit {0}
+  PutIn (Copy pairs) number k image =
+      (source : ℕ) × (source_in pairs k ≡ Some source) × (is_own source (owners stream (number - 1) k) ≡ true)
+      × ((s : List ℕ) → slice_get image k ≡ Some s → slice_get (image_at (number - 1)) k ≡ Some s)
   PutIn Checkpoint number k image = ⊥
 
   abbrev pub OwnsBy : Option Owner → (k : ℕ) → Image → Type 0
@@ -96,7 +123,7 @@ module _ (plain : PlainState) (valid : IsPlainVolume plain) (blank_is : OpensBla
       → ((s : List ℕ) → slice_get other k ≡ Some s → slice_get image k ≡ Some s)
       → PutIn content number k image → PutIn content number k other
   put_still Data number k image other same put = (put.0, put.1, λ s at. put.2 s (same s at))
-  put_still (Copy pairs) number k image other same put = tt
+  put_still (Copy pairs) number k image other same put = (put.0, put.1, put.2, λ s at. put.3 s (same s at))
   put_still Checkpoint number k image other same put = put
 
   owns_still : (owner : Option Owner) (k : ℕ) (image other : Image)
@@ -169,12 +196,7 @@ module _ (plain : PlainState) (valid : IsPlainVolume plain) (blank_is : OpensBla
         All-weaker (λ entry. is_in_range g entry ≡ true) (EndsBy g.sectors) (EndsBy-in_range g) plain.entries valid.in_range
 
     sectors_at : length (image_at n) ≡ plain.geometry.sectors
-    sectors_at =
-        let first = take (end_at stream n - plain.end) plain.entries in
-        let inside : All (EndsBy (length plain.opening)) first =
-        subst (λ m. All (EndsBy m) first) (sym valid.sectors)
-        (All-take (EndsBy plain.geometry.sectors) (end_at stream n - plain.end) plain.entries all_inside) in
-        length-after plain.opening first inside ∙ valid.sectors
+    sectors_at = long_image plain valid n
 
     inside_image : All (EndsBy (length (image_at n))) entries
     inside_image =
@@ -231,21 +253,26 @@ module _ (plain : PlainState) (valid : IsPlainVolume plain) (blank_is : OpensBla
         ap (after (image_at n))
         (entries_are ∙ ap (λ m. take m (drop (end_at stream n - plain.end) plain.entries)) none)
 
-    by_test : (k : ℕ) (owner : Option Owner) (still : Bool) (pairs : _) → object.content ≡ Copy pairs
+    by_test : (k source : ℕ) (owner : Option Owner) (still : Bool) (pairs : List CopiedSector) → object.content ≡ Copy pairs
+        → source_in pairs k ≡ Some source → owners stream n k ≡ owner → is_own source owner ≡ still
         → OwnsBy owner k (image_at n)
         → OwnsBy (cond still (Some (record { level = 0; number = n + 1 })) owner) k (image_at n)
-    by_test k owner true pairs is owns =
+    by_test k source owner true pairs is from at_n still owns =
         λ other at_it.
         let same : object ≡ other = let e = ap (slice_get plain.objects) (sym index) ∙ at_it in cc in
         let kind : Copy pairs ≡ other.content = sym is ∙ ap (λ (o : StreamObject). o.content) same in
-        subst (λ c. PutIn c (n + 1) k (image_at n)) kind tt
-    by_test k owner false pairs is owns = owns
+        let own : is_own source (owners stream (n + 1 - 1) k) ≡ true =
+        ap (λ m. is_own source (owners stream m k)) before ∙ ap (is_own source) at_n ∙ still in
+        subst (λ c. PutIn c (n + 1) k (image_at n)) kind
+        (source, from, own, λ s at_k. ap (λ m. slice_get (image_at m) k) before ∙ at_k)
+    by_test k source owner false pairs is from at_n still owns = owns
 
-    by_copy : (k : ℕ) (owner : Option Owner) (source : Option ℕ) (pairs : _) → object.content ≡ Copy pairs
-        → OwnsBy owner k (image_at n)
+    by_copy : (k : ℕ) (owner : Option Owner) (source : Option ℕ) (pairs : List CopiedSector) → object.content ≡ Copy pairs
+        → source_in pairs k ≡ source → owners stream n k ≡ owner → OwnsBy owner k (image_at n)
         → OwnsBy (owner_by_copy (n + 1) source owner) k (image_at n)
-    by_copy k owner None pairs is owns = owns
-    by_copy k owner (Some source) pairs is owns = by_test k owner (is_own source owner) pairs is owns
+    by_copy k owner None pairs is from at_n owns = owns
+    by_copy k owner (Some source) pairs is from at_n owns =
+        by_test k source owner (is_own source owner) pairs is from at_n refl owns
 
     by_content : (k : ℕ) (content : Content) → object.content ≡ content → OwnsBy (owners stream n k) k (image_at n)
         → OwnsBy (after_object (n + 1) content entries (owners stream n) k) k (after (image_at n) entries)
@@ -253,7 +280,7 @@ module _ (plain : PlainState) (valid : IsPlainVolume plain) (blank_is : OpensBla
     by_content k (Copy pairs) is owns =
         subst (OwnsBy (owner_by_copy (n + 1) (source_in pairs k) (owners stream n k)) k)
         (sym (none_in (λ kind. cc)))
-        (by_copy k (owners stream n k) (source_in pairs k) pairs is owns)
+        (by_copy k (owners stream n k) (source_in pairs k) pairs is refl refl owns)
     by_content k Checkpoint is owns = subst (OwnsBy (owners stream n k) k) (sym (none_in (λ kind. cc))) owns
 
     one_more : (k : ℕ) → OwnsBy (owners stream n k) k (image_at n) → OwnsBy (owners stream (n + 1) k) k (image_at (n + 1))

@@ -1,6 +1,6 @@
 -- What a mount finds of a plain volume is what the store has after a stop: it opens at the newest checkpoint that is there.
 use Rattle.std.proofs.Common.{◌≡◌, ℕ, ◌+◌, ◌-◌, ◌<◌, ◌≤◌, ◌==◌, ◌⊎◌, inl, inr, Bool, true, false, not, ◌&&◌, ◌||◌, nat_lt, nat_le}
-use Rattle.std.proofs.Common.{Option, Some, None, is_some, List, take, get_or, refl, sym, ◌∙◌, ap, subst, arith}
+use Rattle.std.proofs.Common.{Option, Some, None, is_some, List, ◌∷◌, length, take, get_or, refl, sym, ◌∙◌, ap, subst, arith}
 use Rattle.std.specs.Prelude.{IsTrue}
 use Rattle.std.specs.List.{All, slice_get}
 use Rattle.std.proofs.lemmas.Bool.{cases_lt}
@@ -8,49 +8,64 @@ use Rattle.std.proofs.lemmas.Bool.Decides.{nat_tests}
 use Rattle.std.proofs.lemmas.List.{length-take}
 use Rattle.std.proofs.lemmas.List.Elements.{All-weaker}
 use Rattle.std.proofs.lemmas.Option.{slice_get-get_or}
+use mathlib.Core.Path.{fun_ext}
+use Rattle.lsvd_base.specs.declared.entry.Entry.{Entry}
 use Rattle.lsvd_base.specs.Laws.{EndsBy}
 use Rattle.lsvd_base.specs.Range.{is_in_range}
+use Rattle.lsvd_names.specs.Names.{numbered_name}
 use Rattle.lsvd_objstore.specs.Objects.{Objects, found}
 use Rattle.object_format.specs.declared.expected.Expected.{Expected}
+use Rattle.object_format.specs.declared.rows.Rows.{Rows}
 use Rattle.object_format.specs.declared.rows.Rows.TheVariants as rows_of
 use Rattle.ckpt_format.specs.Checkpoint.{IsCheckpoint}
+use Rattle.object_stream.specs.declared.object.CopiedSector.{CopiedSector}
 use Rattle.object_stream.specs.declared.object.Content.{Content}
 use Rattle.object_stream.specs.declared.object.Content.TheVariants.{Data, Copy, Checkpoint}
 use Rattle.object_stream.specs.declared.object.StreamObject.{StreamObject}
 use Rattle.object_stream.specs.declared.owner.Owner.{Owner}
-use Rattle.object_stream.specs.Changes.{change_at}
 use Rattle.object_stream.specs.Landed.{Numbers, IsFirstMissing}
-use Rattle.object_stream.specs.Replay.{object_name, HasParts, expected_at}
-use Rattle.object_stream.specs.Stored.{HasContent}
-use Rattle.object_stream.specs.Stream.{Stream, Owners, owners, objects_to, after_objects, end_after, end_at, last_number}
-use Rattle.object_stream.specs.Stream.{entries_in_object}
-use Rattle.object_stream.specs.Value.{StandsForSector, IsValue}
+use Rattle.object_stream.specs.Replay.{object_name, expected_at}
+use Rattle.object_stream.specs.Stored.{HasContent, IsObjectStored}
+use Rattle.object_stream.specs.Stream.{Stream, Owners, owners, is_own, source_in, objects_to, after_objects, end_after, end_at}
+use Rattle.object_stream.specs.Stream.{last_number, entries_in_object}
+use Rattle.object_stream.specs.Value.{sector_in, HasSector, StandsForSector, IsValue}
+use Rattle.object_stream.proofs.OneLemmas.{one_sector}
+use Rattle.object_uploads.specs.declared.rows.SealedRows.{SealedRows}
+use Rattle.object_uploads.specs.Stream.{HoldsContent}
 use Rattle.stopped_volume.specs.Expected.{expected_alone}
 use Rattle.stopped_volume.specs.Objects.{landed_in, AreCheckpoints}
 use Rattle.stopped_volume.specs.Opening.{IsCheckpointOf, HasOpening}
 use Rattle.stopped_volume.specs.Laws.{HasStreamUpTo}
 use Rattle.object_recovery.specs.Checkpoints.{expected_of}
-use Rattle.plain_disk.specs.State.{PlainState, stream_in}
+use Rattle.plain_disk.specs.State.{PlainState, stream_in, history_length, payload_of}
 use Rattle.plain_disk.specs.Checkpoints.{landed_checkpoint}
 use Rattle.plain_disk.specs.Found.{found_in, Finds, HasFoundStream}
 use Rattle.plain_disk.specs.Removals.{has, absent_of}
-use Rattle.plain_disk.specs.Stops.{recovered_number}
+use Rattle.plain_disk.specs.Stops.{recovered_number, found_by}
 use Rattle.plain_disk.specs.Valid.{IsPlainVolume}
-use Rattle.plain_disk.proofs.FoundLemmas.{found_is, found_has_present}
+use Rattle.plain_disk.proofs.EndLemmas.{ends_within}
+use Rattle.plain_disk.proofs.FoldLemmas.{payloads_of_fold}
+use Rattle.plain_disk.proofs.FoundLemmas.{found_is, found_has_present, whole_may_fold}
 use Rattle.plain_disk.proofs.FoundStreamLemmas.{found_has_stream}
-use Rattle.plain_disk.proofs.Overlaid.{EndsBy-in_range}
+use Rattle.plain_disk.proofs.OpeningLemmas.{owners_are_past}
+use Rattle.plain_disk.proofs.Overlaid.{EndsBy-in_range, sectors_limit}
 use Rattle.plain_disk.proofs.StopLemmas.{recovers_sealed}
+use Rattle.object_recovery.specs.Table.{HasPayloadThere}
 use Rattle.refine_mount.specs.Found.{HasObjects}
-use Rattle.refine_store.specs.Puts.{IsLaterObject, IsObjectOf}
+use Rattle.refine_mount.proofs.CutPayloads.{payload_of_cut}
+use Rattle.refine_store.specs.Puts.{image_up_to, HasSourceSectors, IsLaterObject, IsObjectOf}
 use Rattle.refine_store.specs.Stored.{HasVolumeUpTo}
 use Rattle.refine_store.specs.Laws.{VolumeHasObjects}
 use Rattle.refine_store.proofs.BaseLemmas.{IsPlainCheckpointAt, opening_is_checkpoint, later_is_checkpoint, opens_blank, HasBase}
 use Rattle.refine_store.proofs.BaseLemmas.{has_base}
-use Rattle.refine_store.proofs.DataLemmas.{HasData, data_of_content, checkpoint_or, no_data}
-use Rattle.refine_store.proofs.NewestLemmas.{base_from, no_newer, data_past, landed_past}
+use Rattle.refine_store.proofs.DataLemmas.{AreContentRows, sectors_of_content, copy_sector, checkpoint_or, no_sectors}
+use Rattle.refine_store.proofs.NewestLemmas.{base_from, no_newer, none_past, landed_past}
 use Rattle.refine_store.proofs.ObjectLemmas.{get_of_first, entries_at}
-use Rattle.refine_store.proofs.OwnerLemmas.{uuid_at, stands_for, hold_places}
-use Rattle.refine_store.proofs.StoredLemmas.{IsStoredAt, stored_by_each, end_before, entries_there}
+use Rattle.refine_store.proofs.OwnerLemmas.{uuid_at, own_sector, stands_for, hold_places}
+use Rattle.refine_store.proofs.PayloadLemmas.{object_payload}
+use Rattle.refine_store.proofs.PlaceLemmas.{sector_of_copy_inside}
+use Rattle.refine_store.proofs.StoredLemmas.{IsStoredAt, stored_by_each, get_within, end_before, entries_there}
+use Rattle.refine_store.proofs.ValueLemmas.{OwnsBy, owns_at, long_image, owner_of}
 
 -- ---- tests
 
@@ -258,10 +273,10 @@ module _ (uuid : List ℕ) (epoch : ℕ) (plain : PlainState) (landed : Numbers)
         (ap is_checkpoint later.there
         ∙ checkpoint_or later.object.content (is_kind later.object.content ≡ true) (λ kind. ap is_kind kind)
         (λ not_so.
-        let data_is = data_of_content stream (expected_at volume n (end_at stream (n - 1))) later.object.content
+        let has = sectors_of_content stream (expected_at volume n (end_at stream (n - 1))) later.object.content
         (entries_in_object stream n) (owners stream (n - 1)) later.object.end object.0 later.rows not_so later.holds in
-        absurd (no_data volume objects n end (end_at stream (n - 1)) later.object.end owned (entries_in_object stream n) object.0
-        is object.1 data_is.1))))
+        absurd (no_sectors volume objects n end (end_at stream (n - 1)) later.object.end owned later.object.content
+        (entries_in_object stream n) object.0 is object.1 has))))
   ]
 
   is_told : (n end : ℕ) (owned : Owners) → IsCheckpointOf volume objects n end owned → checkpoint n ≡ true
@@ -368,64 +383,209 @@ module _ (uuid : List ℕ) (epoch : ℕ) (plain : PlainState) (landed : Numbers)
     object_is : ObjectThere n
     object_is = has_it.there n (omega arith) (omega (arith, low)) there_is
 
-    record IsDataThere : Type 0 where
-      kind : object.content ≡ Data
+    abbrev before : ℕ
+    before = end_at stream (n - 1)
+
+    abbrev own : List Entry
+    own = entries_in_object stream n
+
+    -- the object that the store has there is this one
+    record IsThere : Type 0 where
       bytes : List ℕ
       present_is : found objects (object_name volume n) ≡ Some bytes
-      has_data : HasData (expected_at volume n (end_at stream (n - 1))) (entries_in_object stream n) object.end bytes
+      later : IsLaterObject volume plain n bytes
+      same : later.object ≡ object
 
-    data_there : IsDataThere
-    data_there = elim object_is.2 [
+    is_later : IsThere
+    is_later = elim object_is.2 [
       | inl first ↦ absurd (let opens_at = from in omega (arith, first.first, opens_at.0, opens_at.1))
       | inr is ↦
           let index : n - (base + 1) ≡ i = omega arith in
-          let same : is.object ≡ object =
-          let e = sym is.there ∙ sym (has_stream.objects n (omega arith) (omega (arith, low)))
-          ∙ ap (slice_get there.objects) index ∙ at in cc in
-          let data_is = data_past plain landed valid has_it.blank has_it.seals has_it.may volume n object_is.0 (omega arith)
-          there_is is in
           record {
-            kind = sym (ap (λ (o : StreamObject). o.content) same) ∙ data_is.0;
             bytes = object_is.0;
             present_is = object_is.1;
-            has_data =
-                subst (λ (o : StreamObject). HasData (expected_at volume n (end_at stream (n - 1))) (entries_in_object stream n)
-                o.end object_is.0) same data_is.1;
+            later = is;
+            same =
+                let e = sym is.there ∙ sym (has_stream.objects n (omega arith) (omega (arith, low)))
+                ∙ ap (slice_get there.objects) index ∙ at in cc;
           }
     ]
 
-    is_stored : IsStoredAt objects (uuid_at uuid epoch plain landed objects valid has_it) volume there.number there.end
-        there.entries there.objects i object
-    is_stored =
-        let is = data_there in
-        let uuids = uuid_at uuid epoch plain landed objects valid has_it in
-        let rows = rows_of.Data is.has_data.rows in
-        let payload = is.has_data.payload in
-        let part = entries_at there.end there.entries there.objects i object in
-        let ends : end_at stream (n - 1) ≡ end_after there.end (take i there.objects) =
-        sym (has_stream.ends (n - 1) (omega arith) (omega (arith, low))) ∙ end_before there i object at in
-        let same : entries_in_object stream n ≡ part =
-        sym (has_stream.entries n (omega arith) (omega (arith, low))) ∙ entries_there there i object at in
-        let content : HasContent objects uuids Data part rows payload =
-        λ k. is.has_data.changes k ∙ ap (λ list. change_at list k) same in
-        record {
-          bytes = is.bytes;
-          header = is.has_data.header;
-          rows_of = rows;
-          payload = payload;
-          present = is.present_is;
-          parts =
-              subst (λ end. HasParts (expected_at volume n end) is.bytes is.has_data.header rows payload) ends is.has_data.parts;
-          ends = is.has_data.ends;
-          content = subst (λ c. HasContent objects uuids c part rows payload) (sym is.kind) content;
-        }
+    -- it is no checkpoint
+    not_so : object.content ≡ Checkpoint → ⊥
+    not_so kind =
+        let is = is_later in
+        none_past plain landed valid has_it.blank has_it.seals has_it.may volume n is.bytes (omega arith) there_is is.later
+        (ap (λ (o : StreamObject). o.content) is.same ∙ kind)
 
-  hold_data : All (λ (object : StreamObject). object.content ≡ Data) (objects_to (stream_in there) number)
-  hold_data i d inside =
+    abbrev uuids : ℕ → Option (List ℕ)
+    uuids = uuid_at uuid epoch plain landed objects valid has_it
+
+    -- the image before the object has as many sectors as the volume
+    image_long : length (image_up_to plain (n - 1)) ≡ plain.geometry.sectors
+    image_long = long_image plain valid (n - 1)
+
+    -- what a source has of a sector that it owned before the object is what the image had there
+    module _ (k source : ℕ) (sector s : List ℕ) (owned : is_own source (owners stream (n - 1) k) ≡ true)
+        (has : HasSector objects uuids (record { level = 0; number = source }) k sector)
+        (held : slice_get (image_up_to plain (n - 1)) k ≡ Some s) where
+      owner_is : owners stream (n - 1) k ≡ Some (record { level = 0; number = source })
+      owner_is = owner_of source (owners stream (n - 1) k) owned
+
+      present_there : found objects (object_name volume source) ≡ Some has.bytes
+      present_there =
+          let same : uuid ≡ has.expected.uuid = let e = has.level in cc in
+          ap (λ u. found objects (numbered_name u source)) same ∙ has.present
+
+      by_put : OwnsBy plain valid has_it.blank (Some (record { level = 0; number = source })) k (image_up_to plain (n - 1))
+      by_put =
+          let opens_at = from in
+          subst (λ (o : Option Owner). OwnsBy plain valid has_it.blank o k (image_up_to plain (n - 1))) owner_is
+          (owns_at plain valid has_it.blank (n - 1) k (omega (arith, opens_at.0, opens_at.1))
+          (most_sealed (n - 1) (omega (arith, low))))
+
+      own_there : (bytes : List ℕ) → found objects (object_name volume source) ≡ Some bytes
+          → IsLaterObject volume plain source bytes
+          → HasSector objects uuids (record { level = 0; number = source }) k s
+      own_there bytes there_at is =
+          let shown = image_up_to plain (n - 1) in
+          let own_of = own_sector uuid epoch plain landed objects valid has_it shown is.object.content source k is.object.end
+          bytes is.rows is.holds is.copied (by_put is.object is.there) in
+          record {
+            expected = expected_at volume source (end_at stream (source - 1));
+            wide = omega (arith, sectors_limit plain.geometry valid.limits);
+            level = refl;
+            number = refl;
+            bytes = bytes;
+            present = there_at;
+            header = own_of.object.header;
+            rows = own_of.object.rows;
+            payload = own_of.object.payload;
+            parts = own_of.object.parts;
+            has = own_of.placed.has ∙ ap Some (sym (own_of.image_has s held));
+          }
+
+      same_sector : s ≡ sector
+      same_sector =
+          let opens_at = from in
+          let past = owners_are_past plain (n - 1) k (record { level = 0; number = source }) has_it.blank owner_is in
+          let landed_source : landed source ≡ true =
+          sym (landed_there source (omega (arith, past.1)) (omega (arith, past.2, low))) ∙ ap is_some present_there in
+          let object_at_source =
+          has_it.there source (omega (arith, past.1)) (omega (arith, past.2, low)) landed_source in
+          elim object_at_source.2 [
+            | inl first ↦ absurd (omega (arith, first.first, opens_at.0, past.1))
+            | inr is ↦
+                one_sector objects uuids (Some (record { level = 0; number = source })) k s sector
+                (own_there object_at_source.0 object_at_source.1 is) has
+          ]
+
+    -- ---- its content
+
+    -- a sector that a copy has, by what the image had there
+    copied_there : (pairs : List CopiedSector) (end : ℕ) (bytes : List ℕ) (rows : SealedRows)
+        (holds : HoldsContent stream (expected_at volume n before) (Copy pairs) own (owners stream (n - 1)) end bytes rows)
+        → HasSourceSectors plain n bytes rows → (k source : ℕ) (sector : List ℕ) → source_in pairs k ≡ Some source
+        → is_own source (owners stream (n - 1) k) ≡ true
+        → HasSector objects uuids (record { level = 0; number = source }) k sector
+        → (let is = sectors_of_content stream (expected_at volume n before) (Copy pairs) own (owners stream (n - 1)) end bytes
+        rows (λ kind. cc) holds in
+        sector_in is.rows is.payload k ≡ Some sector)
+    copied_there pairs end bytes rows holds copied k source sector of_source owned has =
+        let expected : Expected = expected_at volume n before in
+        let is = sectors_of_content stream expected (Copy pairs) own (owners stream (n - 1)) end bytes rows (λ kind. cc) holds in
+        let inside = sector_of_copy_inside expected pairs own end bytes is k source of_source in
+        let held = get_within k (image_up_to plain (n - 1)) (omega (arith, inside, image_long)) in
+        copy_sector plain n expected pairs own (owners stream (n - 1)) end bytes rows (λ kind. cc) holds copied k source held.0
+        of_source owned held.1
+        ∙ ap Some (same_sector k source sector held.0 owned has held.1)
+
+    copy_content : (pairs : List CopiedSector) (rows : Rows) (payload : List ℕ) → AreContentRows (Copy pairs) own rows payload
+        → ((k source : ℕ) (sector : List ℕ) → source_in pairs k ≡ Some source → is_own source (owners stream (n - 1) k) ≡ true
+        → HasSector objects uuids (record { level = 0; number = source }) k sector → sector_in rows payload k ≡ Some sector)
+        → HasContent objects uuids (owners stream (n - 1)) (Copy pairs) own rows payload
+    copy_content pairs (rows_of.Data list) payload are each = absurd are
+    copy_content pairs (rows_of.Copy list) payload are each = (are, each)
+    copy_content pairs rows_of.Checkpoint payload are each = absurd are
+
+    data_content : (rows : Rows) (payload : List ℕ) → AreContentRows Data own rows payload
+        → HasContent objects uuids (owners stream (n - 1)) Data own rows payload
+    data_content (rows_of.Data list) payload are = are
+    data_content (rows_of.Copy list) payload are = absurd are
+    data_content rows_of.Checkpoint payload are = absurd are
+
+    -- the object of this content is in the store
+    stored_by : (content : Content) (end : ℕ) (bytes : List ℕ) (rows : SealedRows)
+        → found objects (object_name volume n) ≡ Some bytes → (content ≡ Checkpoint → ⊥)
+        → HoldsContent stream (expected_at volume n before) content own (owners stream (n - 1)) end bytes rows
+        → HasSourceSectors plain n bytes rows
+        → IsObjectStored objects uuids (expected_at volume n before) (owners stream (n - 1))
+        (record { content = content; end = end }) own
+    stored_by Data end bytes rows present_is kind holds copied =
+        let is = sectors_of_content stream (expected_at volume n before) Data own (owners stream (n - 1)) end bytes rows kind
+        holds in
+        record {
+          bytes = bytes;
+          header = is.header;
+          rows_of = is.rows;
+          payload = is.payload;
+          present = present_is;
+          parts = is.parts;
+          ends = is.ends;
+          content = data_content is.rows is.payload is.are;
+        }
+    stored_by (Copy pairs) end bytes rows present_is kind holds copied =
+        let is = sectors_of_content stream (expected_at volume n before) (Copy pairs) own (owners stream (n - 1)) end bytes rows
+        (λ kind. cc) holds in
+        record {
+          bytes = bytes;
+          header = is.header;
+          rows_of = is.rows;
+          payload = is.payload;
+          present = present_is;
+          parts = is.parts;
+          ends = is.ends;
+          content = copy_content pairs is.rows is.payload is.are (copied_there pairs end bytes rows holds copied);
+        }
+    stored_by Checkpoint end bytes rows present_is kind holds copied = absurd (kind refl)
+
+    -- so it is in the stream that a mount finds
+    ends_there : before ≡ end_after there.end (take i there.objects)
+    ends_there = sym (has_stream.ends (n - 1) (omega arith) (omega (arith, low))) ∙ end_before there i object at
+
+    entries_are : own ≡ entries_at there.end there.entries there.objects i object
+    entries_are = sym (has_stream.entries n (omega arith) (omega (arith, low))) ∙ entries_there there i object at
+
+    owned_there : owners stream (n - 1)
+        ≡ after_objects there.number there.end there.entries (stream_in there).opening (take i there.objects)
+    owned_there =
+        let index : n - 1 - base ≡ i = omega arith in
+        fun_ext (λ k. sym (has_stream.owned (n - 1) k (omega arith) (omega (arith, low))))
+        ∙ ap (λ m. after_objects there.number there.end there.entries (stream_in there).opening (take m there.objects)) index
+
+    is_stored : IsStoredAt objects uuids volume there.number there.end there.entries (stream_in there).opening there.objects i
+        object
+    is_stored =
+        let is = is_later in
+        let later = is.later in
+        let Stored : ℕ → Owners → StreamObject → List Entry → Type 0 =
+        λ end os o list. IsObjectStored objects uuids (expected_at volume n end) os o list in
+        let one = stored_by later.object.content later.object.end is.bytes later.rows is.present_is
+        (none_past plain landed valid has_it.blank has_it.seals has_it.may volume n is.bytes (omega arith) there_is later)
+        later.holds later.copied in
+        let last = end_after there.end (take i there.objects) in
+        let os = after_objects there.number there.end there.entries (stream_in there).opening (take i there.objects) in
+        subst (Stored last os object) entries_are
+        (subst (λ o. Stored last os o own) is.same
+        (subst (λ os. Stored last os later.object own) owned_there
+        (subst (λ end. Stored end (owners stream (n - 1)) later.object own) ends_there one)))
+
+  no_checkpoint : All (λ (object : StreamObject). object.content ≡ Checkpoint → ⊥) (objects_to (stream_in there) number)
+  no_checkpoint i d inside is =
       let list = take (number - base) there.objects in
       let low : i < number - base = omega (arith, inside, length-take (number - base) there.objects) in
       let at = sym (get_of_first (number - base) i there.objects low) ∙ slice_get-get_or list i d inside in
-      (data_there i (get_or list i d) low at).kind
+      absurd (not_so i (get_or list i d) low at is)
 
   inside_all : All (EndsBy plain.geometry.sectors) there.entries
   inside_all =
@@ -445,9 +605,40 @@ module _ (uuid : List ℕ) (epoch : ℕ) (plain : PlainState) (landed : Numbers)
     opens = opens;
     last = last_is;
     stored = stored_by_each objects (uuid_at uuid epoch plain landed objects valid has_it) volume (number - base) there.number
-        there.end there.entries there.objects there_valid.stream.ends is_stored;
+        there.end there.entries (stream_in there).opening there.objects there_valid.stream.ends is_stored;
     past = has_it.past;
   }
+
+  -- ---- the payloads
+
+  payload_kept : (other : ℕ) → other ≤ number → payload_of plain other ≡ payload_of there other
+  payload_kept other low =
+      let whole : PlainState = found_by landed (history_length plain) plain in
+      let opens_at = from in
+      let most = most_sealed number (omega arith) in
+      sym (payload_of_cut plain number (history_length plain) other valid (omega (arith, opens_at.0, opens_at.1, opens_at.3)) most
+      (ends_within plain number valid most) low)
+      ∙ ap (λ list. get_or (0 ∷ list) other 0) (sym (payloads_of_fold whole base (whole_may_fold landed plain finds)))
+
+  payload_there : (other payload : ℕ) → other ≤ number → HasPayloadThere volume objects other payload
+      → payload ≡ payload_of there other
+  payload_there other payload low is =
+      elim (cases_lt 0 other) [
+        | inl some ↦
+            (let there_is : landed other ≡ true = sym (landed_there other some low) ∙ ap is_some is.present in
+            let object = has_it.there other some low there_is in
+            let same : object.0 ≡ is.bytes = let e = is.present in let f = object.1 in cc in
+            sym is.payload_is
+            ∙ object_payload volume plain other is.bytes valid refl (most_sealed other low) is.header is.is_header
+            is.no_checkpoint (subst (IsObjectOf volume plain other) same object.2)
+            ∙ payload_kept other low)
+        | inr none ↦
+            (let zero_is : 0 ≡ other = omega (arith, none) in
+            let absent : found objects (object_name volume other) ≡ None =
+            subst (λ n. found objects (object_name volume n) ≡ None) zero_is has_it.none_first in
+            let there_is = is.present in
+            absurd cc)
+      ]
 
   has_objects : HasObjects uuid there number objects
   has_objects = record {
@@ -456,14 +647,16 @@ module _ (uuid : List ℕ) (epoch : ℕ) (plain : PlainState) (landed : Numbers)
     window = refl;
     pins = refl;
     none_out = refl;
+    no_plan = refl;
     gone = refl;
     present = present;
+    payloads = payload_there;
     stored = record {
       own = refl;
       valid = there_valid.stream;
       sectors = there_valid.sectors;
       stored = has_stream_up_to;
-      hold_data = hold_data;
+      no_checkpoint = no_checkpoint;
       inside = inside_all;
     };
   }

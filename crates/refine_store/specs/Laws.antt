@@ -1,12 +1,13 @@
 -- Contract: what a put gives a store is the plain volume's object, what a stop leaves of the store is what a mount finds, and
 -- what a mount leaves stands for the volume that it makes.
-use Rattle.std.specs.Prelude.{ℕ, ◌<◌, ◌≤◌, IfSome, Option, List}
+use Rattle.std.specs.Prelude.{ℕ, ◌<◌, ◌≤◌, true, IfSome, Option, List}
 use Rattle.lsvd_objstore.specs.Objects.{Objects}
 use Rattle.object_format.specs.declared.expected.Expected.{Expected}
 use Rattle.object_stream.specs.Landed.{Numbers}
 use Rattle.object_uploads.specs.State.{JobState, UploadsState}
 use Rattle.object_uploads.specs.Order.{IsUploads}
 use Rattle.object_uploads.specs.Changes.{IsJobOf}
+use Rattle.object_uploads.specs.Image.{TellAlike}
 use Rattle.object_uploads.specs.Stream.{IsPlacedIn}
 use Rattle.obj_log.specs.State.{ObjLogState}
 use Rattle.obj_log.specs.Changes.{expected_of_volume}
@@ -32,12 +33,13 @@ use Rattle.refine_store.specs.Stored.{StoreStands, HasVolumeUpTo, HasNonePast}
 
 -- ---- objects
 
--- the job of a put that began has the bytes of the plain volume's object
+-- the job of a put that began has the bytes of the plain volume's object, where the receipts that are known tell bytes
 abbrev pub JobIsObject : Type 0
 JobIsObject =
     (data_at : ℕ → ℕ) (objects : ObjLogState) (plain : PlainState) (number : ℕ) (job : JobState)
     → IsUploads objects.uploads → IsPlainVolume plain → ShowsObjects data_at objects plain
     → objects.uploads.queue.frontier < number → number ≤ objects.uploads.window.last
+    → TellAlike true objects.uploads.queue
     → IsJobOf objects.uploads number job → IsObjectOf (expected_of_volume objects) plain number job.bytes
 
 -- an object of a volume that is followed from its creation on stays one while events go on

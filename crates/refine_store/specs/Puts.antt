@@ -1,16 +1,21 @@
 -- Contract: the bytes of a plain volume's objects, how far each of them has come, and what a stop leaves of them in a store.
-use Rattle.std.specs.Prelude.{◌≡◌, ℕ, ◌+◌, ◌-◌, ◌<◌, ◌≤◌, ◌⊎◌, true, false, Option, Some, None, if◌then◌else◌, List}
+use Rattle.std.specs.Prelude.{◌≡◌, ℕ, ◌+◌, ◌-◌, ◌*◌, ◌<◌, ◌≤◌, ◌⊎◌, true, false, Option, Some, None, if◌then◌else◌, List}
+use Rattle.std.specs.Prelude.{take, drop}
 use Rattle.std.specs.List.{slice_get, list_any}
+use Rattle.lsvd_base.specs.Image.{Image, after}
 use Rattle.lsvd_objstore.specs.Objects.{Objects}
 use Rattle.extent_map.specs.declared.extent.Extent.{Extent}
 use Rattle.object_format.specs.declared.expected.Expected.{Expected}
 use Rattle.ckpt_format.specs.declared.place.StoredPlace.{StoredPlace}
 use Rattle.ckpt_format.specs.Checkpoint.{IsCheckpoint}
 use Rattle.object_stream.specs.declared.object.StreamObject.{StreamObject}
-use Rattle.object_stream.specs.Stream.{owners, end_at, entries_in_object}
-use Rattle.object_stream.specs.Replay.{expected_at}
+use Rattle.object_stream.specs.Stream.{owners, end_at, is_own, entries_in_object}
+use Rattle.object_stream.specs.Replay.{expected_at, source_at}
+use Rattle.object_stream.specs.Value.{copied_in}
 use Rattle.upload_window.specs.Window.{has_number, was_started}
 use Rattle.object_uploads.specs.declared.rows.SealedRows.{SealedRows}
+use Rattle.object_uploads.specs.declared.rows.SealedRows.TheVariants as sealed_rows
+use Rattle.object_uploads.specs.Queue.{copy_front_of}
 use Rattle.object_uploads.specs.Stream.{HoldsContent}
 use Rattle.stopped_volume.specs.Expected.{expected_alone}
 use Rattle.stopped_volume.specs.Opening.{owned_by}
@@ -31,8 +36,23 @@ pub record IsOpeningObject (volume : Expected) (plain : PlainState) (number : �
   pub is_checkpoint : IsCheckpoint bytes (expected_alone volume number) plain.end rows
   pub says : (k : ℕ) → (stream_in plain).opening k ≡ owned_by rows k
 
--- Or they are those of a later object: of a data object of just its entries, or of a checkpoint of the owners before it, each
--- place where its object has the sector. It goes on where the object before it ends.
+-- the image after the entries of the objects up to a number
+abbrev pub image_up_to : PlainState → (number : ℕ) → Image
+image_up_to plain number = after plain.opening (take (end_at (stream_in plain) number - plain.end) plain.entries)
+
+-- the payload of the copy of a number, which has these rows, has what the image before it had of each sector that its source
+-- owned
+abbrev pub HasSourceSectors : PlainState → (number : ℕ) → (bytes : List ℕ) → SealedRows → Type 0
+HasSourceSectors plain number bytes (sealed_rows.Data list) = Unit {0}
+HasSourceSectors plain number bytes (sealed_rows.Copy list) =
+    (k source : ℕ) (sector : List ℕ) → source_at list.items k ≡ Some source
+    → is_own source (owners (stream_in plain) (number - 1) k) ≡ true
+    → slice_get (image_up_to plain (number - 1)) k ≡ Some sector
+    → copied_in list.items (drop (512 * copy_front_of list.items) bytes) k ≡ Some sector
+HasSourceSectors plain number bytes sealed_rows.Checkpoint = Unit {0}
+
+-- Or they are those of a later object: of a data object of just its entries, of a copy of its sectors, or of a checkpoint of the
+-- owners before it, each place where its object has the sector. It goes on where the object before it ends.
 pub record IsLaterObject (volume : Expected) (plain : PlainState) (number : ℕ) (bytes : List ℕ) : Type 0 where
   pub past : plain.number < number
   pub object : StreamObject
@@ -41,6 +61,7 @@ pub record IsLaterObject (volume : Expected) (plain : PlainState) (number : ℕ)
   pub holds :
       HoldsContent (stream_in plain) (expected_at volume number (end_at (stream_in plain) (number - 1))) object.content
       (entries_in_object (stream_in plain) number) (owners (stream_in plain) (number - 1)) object.end bytes rows
+  pub copied : HasSourceSectors plain number bytes rows
 
 -- bytes are those of a plain volume's object of a number
 abbrev pub IsObjectOf : (volume : Expected) → PlainState → (number : ℕ) → (bytes : List ℕ) → Type 0

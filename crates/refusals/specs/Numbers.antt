@@ -2,7 +2,6 @@
 use Rattle.std.specs.Prelude.{ℕ}
 use Rattle.log_record.specs.Tests.{code_of as record_code}
 use Rattle.object_format.specs.Tests.{code_of as object_code}
-use Rattle.object_format.specs.declared.reason.BadObject.TheVariants as objects
 use Rattle.super_format.specs.Tests.{code_of as reason_code}
 use Rattle.refusals.specs.declared.bad_super.BadSuper.{BadSuper}
 use Rattle.refusals.specs.declared.bad_super.BadSuper.TheVariants as supers
@@ -23,7 +22,6 @@ refusal_number reasons.NoVolume = 1
 refusal_number (reasons.BadSuper reason) = 2
 refusal_number reasons.NoCheckpoint = 3
 refusal_number (reasons.BadObject number reason) = 4
-refusal_number (reasons.NotData number) = 4
 refusal_number (reasons.MissingObject number) = 4
 refusal_number (reasons.StaleCache cache store) = 5
 refusal_number (reasons.WrongVolume found) = 6
@@ -33,14 +31,12 @@ refusal_number (reasons.BadRecord seq reason) = 10
 refusal_number reasons.Exists = 11
 refusal_number (reasons.Worn value) = 12
 
--- The values that are told with it. A copied object is of a kind that is not mounted yet, as one of an unknown kind is. The
--- reasons of bad objects go to 8, and a missing one has the next.
+-- the values that are told with it: the reasons of bad objects go to 8, and a missing one has the next
 abbrev pub refusal_values : Refusal → Values
 refusal_values reasons.NoVolume = Nothing
 refusal_values (reasons.BadSuper reason) = One (super_code reason)
 refusal_values reasons.NoCheckpoint = Nothing
 refusal_values (reasons.BadObject number reason) = Two number (object_code reason)
-refusal_values (reasons.NotData number) = Two number (object_code objects.Kind)
 refusal_values (reasons.MissingObject number) = Two number 9
 refusal_values (reasons.StaleCache cache store) = Two cache store
 refusal_values (reasons.WrongVolume found) = Volume found

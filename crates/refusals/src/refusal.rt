@@ -24,10 +24,6 @@ pub enum Refusal {
     /// number.
     #[error("bad object {number}: {reason}")]
     BadObject { number: u64, reason: BadObject },
-    /// 4, as an object of an unknown kind: the object of this number, past the newest checkpoint and before
-    /// the first missing number, holds no entries. It is a copy, which is not recovered yet.
-    #[error("object {number} holds no entries")]
-    NotData { number: u64 },
     /// 4, with the reason 9, which no bytes of an object have: the newest checkpoint maps a sector to the
     /// object of this number, which does not have it there. It is absent, is no data object or copy of the
     /// grammar, or its payload has no such place.
@@ -86,9 +82,7 @@ impl Refusal {
             Refusal::NoVolume => 1,
             Refusal::BadSuper { .. } => 2,
             Refusal::NoCheckpoint => 3,
-            Refusal::BadObject { .. } | Refusal::NotData { .. } | Refusal::MissingObject { .. } => {
-                4
-            }
+            Refusal::BadObject { .. } | Refusal::MissingObject { .. } => 4,
             Refusal::StaleCache { .. } => 5,
             Refusal::WrongVolume { .. } => 6,
             Refusal::NoSlot { .. } => 7,
@@ -109,7 +103,6 @@ impl Refusal {
             Refusal::BadObject { number, reason } => {
                 Values::Two(number, u64::from(reason.code()))
             }
-            Refusal::NotData { number } => Values::Two(number, u64::from(BadObject::Kind.code())),
             Refusal::MissingObject { number } => Values::Two(number, MISSING),
             Refusal::StaleCache { cache, store } => Values::Two(cache, store),
             Refusal::WrongVolume { found } => Values::Volume(found),

@@ -19,6 +19,7 @@ use Rattle.refine_log.specs.Fuses.{fuse_in}
 use Rattle.refine_log.specs.Pending.{ShowsPending}
 use Rattle.refine_log.proofs.Asked.{pending_count}
 use Rattle.refine_log.proofs.PendingShown.{still_shows_pending}
+use Rattle.refine_store.proofs.KeepLemmas.{copied_too}
 use Rattle.refine_store.specs.Puts.{IsObjectOf}
 use Rattle.transcript.specs.Letters.{under_way}
 use Rattle.vol_core.specs.Volume.{VolumeState, SteppedVolume, with_budget_of}
@@ -77,7 +78,14 @@ object_with_cache : (volume : Expected) (plain : PlainState) (cache : PlainCache
 object_with_cache volume plain cache number bytes (inl is) =
     inl (record { first = is.first; rows = is.rows; is_checkpoint = is.is_checkpoint; says = is.says })
 object_with_cache volume plain cache number bytes (inr is) =
-    inr (record { past = is.past; object = is.object; there = is.there; rows = is.rows; holds = is.holds })
+    inr (record {
+      past = is.past;
+      object = is.object;
+      there = is.there;
+      rows = is.rows;
+      holds = is.holds;
+      copied = copied_too plain (record plain { cache = cache }) number bytes is.rows refl refl is.copied;
+    })
 
 kept_with_cache : (plain : PlainState) (cache : PlainCache) (number : ℕ) → IsKeptObject plain number
     → IsKeptObject (record plain { cache = cache }) number

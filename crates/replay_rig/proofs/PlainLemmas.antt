@@ -7,15 +7,17 @@ use Rattle.lsvd_base.specs.declared.entry.Entry.TheVariants as entries
 use Rattle.lsvd_base.specs.Limits.{may_transfer}
 use Rattle.lsvd_device.specs.Calls.{Fuse, fuse_after}
 use Rattle.object_stream.specs.declared.object.Content.TheVariants.{Data, Checkpoint}
+use Rattle.object_stream.specs.declared.object.CopiedSector.{CopiedSector}
 use Rattle.object_stream.specs.declared.object.StreamObject.{StreamObject}
 use Rattle.object_stream.specs.Stream.{end_at, last_number}
 use Rattle.upload_window.specs.Window.{WindowState, lowest_ready, entered, is_started, acknowledged, marked}
 use Rattle.plain_disk.specs.declared.event.PlainEvent.{PlainEvent}
 use Rattle.plain_disk.specs.declared.event.PlainEvent.TheVariants.{Write, Zero, Flush, Look, Release, Seal, TakeJob, JobDone}
 use Rattle.plain_disk.specs.declared.event.PlainEvent.TheVariants.{JobFailed, SealCheckpoint, TakeRemove}
-use Rattle.plain_disk.specs.declared.event.PlainEvent.TheVariants.{RemoveDone, RemoveFailed, Status}
+use Rattle.plain_disk.specs.declared.event.PlainEvent.TheVariants.{RemoveDone, RemoveFailed, PlanCopy, SealCopy, DropPlan, Status}
 use Rattle.plain_disk.specs.Cache.{PlainCache, writes_of, after_writes, after_reads, passes_entry, cache_after_entry}
 use Rattle.plain_disk.specs.Cache.{commit_calls_after, cache_after_commit}
+use Rattle.plain_disk.specs.Collection.{planned_copy, with_plan, after_sealed_copy}
 use Rattle.plain_disk.specs.Log.{with_record}
 use Rattle.plain_disk.specs.Entries.{batch_refusal, commits_for_room, cache_for, comes_to_log, cache_after, after_entering}
 use Rattle.plain_disk.specs.Objects.{has_unsealed, is_busy, end_of_next, window_after_take, window_after_done}
@@ -155,6 +157,34 @@ taking_grows plain None None = same_grows plain
 taking_grows plain None (Some number) = removal_grows plain plain.removed (plain.given_out ++ number ∷ []) (Some number)
 taking_grows plain (Some other) lowest = same_grows plain
 
+-- the plan of a copy, or none, and its seal
+with_plan_grows : (plain : PlainState) (plan : Option (List CopiedSector)) → GrowsByOne plain (record plain { plan = plan })
+with_plan_grows plain plan = record {
+  geometry = refl;
+  end = refl;
+  entries = omega arith;
+  last = omega arith;
+  told = refl;
+}
+
+plan_grows : (plain : PlainState) (out : Option (List CopiedSector)) (sectors : List CopiedSector)
+    → GrowsByOne plain (with_plan out sectors plain)
+plan_grows plain (Some plan) sectors = same_grows plain
+plan_grows plain None [] = same_grows plain
+plan_grows plain None (first ∷ more) = with_plan_grows plain (Some (first ∷ more))
+
+copy_grows : (plain : PlainState) (is_sealed : Bool) (out : Option (List CopiedSector))
+    → GrowsByOne plain (after_sealed_copy is_sealed out plain)
+copy_grows plain is_sealed None = same_grows plain
+copy_grows plain false (Some plan) = same_grows plain
+copy_grows plain true (Some plan) = record {
+  geometry = refl;
+  end = refl;
+  entries = omega arith;
+  last = omega arith;
+  told = refl;
+}
+
 pub event_grows : (plain : PlainState) (event : PlainEvent) → GrowsByOne plain (plain_after event plain)
 event_grows plain (Write lba body) = entering_grows plain (entries.Write lba body)
 event_grows plain (Zero lba sectors) = entering_grows plain (entries.Zero lba sectors)
@@ -198,6 +228,9 @@ event_grows plain (RemoveDone number) =
 event_grows plain (RemoveFailed number) =
     either_grows plain (is_out number plain.removal) (record plain { removal = None }) plain
     (removal_grows plain plain.removed plain.given_out None) (same_grows plain)
+event_grows plain PlanCopy = plan_grows plain plain.plan (planned_copy plain)
+event_grows plain (SealCopy is_planned) = copy_grows plain (is_planned && not (is_busy plain)) plain.plan
+event_grows plain DropPlan = with_plan_grows plain None
 event_grows plain Status = same_grows plain
 
 -- ---- removals
@@ -222,6 +255,18 @@ is_no_removal TakeRemove = false
 is_no_removal (RemoveDone number) = false
 is_no_removal (RemoveFailed number) = false
 is_no_removal event = true
+
+plan_removals : (plain : PlainState) (out : Option (List CopiedSector)) (sectors : List CopiedSector)
+    → KeepsRemovals plain (with_plan out sectors plain)
+plan_removals plain (Some plan) sectors = same_removals plain
+plan_removals plain None [] = same_removals plain
+plan_removals plain None (first ∷ more) = record { removed = refl; given_out = refl; removal = refl }
+
+copy_removals : (plain : PlainState) (is_sealed : Bool) (out : Option (List CopiedSector))
+    → KeepsRemovals plain (after_sealed_copy is_sealed out plain)
+copy_removals plain is_sealed None = same_removals plain
+copy_removals plain false (Some plan) = same_removals plain
+copy_removals plain true (Some plan) = record { removed = refl; given_out = refl; removal = refl }
 
 pub event_keeps_removals : (plain : PlainState) (event : PlainEvent) → is_no_removal event ≡ true
     → KeepsRemovals plain (plain_after event plain)
@@ -253,6 +298,10 @@ event_keeps_removals plain SealCheckpoint is =
 event_keeps_removals plain TakeRemove is = absurd cc
 event_keeps_removals plain (RemoveDone number) is = absurd cc
 event_keeps_removals plain (RemoveFailed number) is = absurd cc
+event_keeps_removals plain PlanCopy is = plan_removals plain plain.plan (planned_copy plain)
+event_keeps_removals plain (SealCopy is_planned) is =
+    copy_removals plain (is_planned && not (is_busy plain)) plain.plan
+event_keeps_removals plain DropPlan is = record { removed = refl; given_out = refl; removal = refl }
 event_keeps_removals plain Status is = same_removals plain
 
 -- a line leaves no removal out, where it leaves the removals alone

@@ -17,10 +17,12 @@ use Rattle.lsvd_objstore.specs.Objects.{Objects, found, IsPut}
 use Rattle.object_recovery.specs.Checkpoints.{expected_of}
 use Rattle.object_uploads.specs.State.{JobState}
 use Rattle.object_uploads.specs.Order.{IsUploads}
+use Rattle.object_uploads.specs.Image.{TellAlike}
 use Rattle.object_uploads.specs.Changes.{IsOut, IsJobOf}
 use Rattle.object_uploads.proofs.UploadsKept.{frontier_below}
 use Rattle.obj_log.specs.State.{ObjLogState}
 use Rattle.obj_log.specs.Changes.{expected_of_volume}
+use Rattle.stopped_volume.specs.Store.{TellsBytes}
 use Rattle.stopped_volume.specs.Super.{HasVolume}
 use Rattle.upload_window.specs.declared.object.OpenObject.{OpenObject}
 use Rattle.upload_window.specs.Window.{WindowState, Ascends, IsAcknowledged, has_number, below_lowest, below_open, is_ready}
@@ -290,12 +292,16 @@ begun_none old volume reply list same not_taken of = record {
       ];
 }
 
+-- all receipts of a store in memory tell their bytes
+all_told : TellsBytes told_receipt
+all_told receipt = refl
+
 -- the job has the bytes of the plain volume's object
 job_of_rig : (rig : RigState) (plain : PlainState) (n : ℕ) (job : JobState) → ShowsPlain rig plain
     → IsUploads rig.volume.volume.objects.uploads
-    → list_any (has_number n) plain.window.objects ≡ true
+    → list_any (has_number n) plain.window.objects ≡ true → TellAlike true rig.volume.volume.objects.uploads.queue
     → IsJobOf rig.volume.volume.objects.uploads n job → IsKnownPut plain rig.volume.volume (out_put n job.bytes)
-job_of_rig rig plain n job h uploads open_ is_job =
+job_of_rig rig plain n job h uploads open_ told is_job =
     let objects : ObjLogState = rig.volume.volume.objects in
     let window : objects.uploads.window ≡ plain.window = h.shows.objects.window in
     let within = open_within n 0 plain.window.objects plain.window.last h.shows.valid.window.order open_ in
@@ -303,7 +309,7 @@ job_of_rig rig plain n job h uploads open_ is_job =
     let below = ap below_open window in
     let last = ap (λ (w : WindowState). w.last) window in
     let object = job_is_object h.shows.data_at objects plain n job uploads h.shows.valid h.shows.objects
-    (omega (arith, within.0, frontier, below)) (omega (arith, within.1, last)) is_job in
+    (omega (arith, within.0, frontier, below)) (omega (arith, within.1, last)) told is_job in
     let expected : expected_of_volume objects ≡ expected_of_plain plain =
     ap (λ (g : Geometry). expected_of objects.uploads.uuid g) h.shows.objects.geometry
     ∙ ap (λ uuid. expected_of uuid plain.geometry) h.uuid_is in
@@ -330,7 +336,8 @@ job_begun old volume job plain uploads of h tells now =
     let are = begun_under_way n job.bytes 0 objects plain.window.last old.puts h.shows.valid.window.order open_ h.puts in
     puts_go_on old volume old.objects (with_begun n job.bytes old.puts) TakeJob (told.Taken job) events.TakeJob plain h of now
     (subst (λ (w : WindowState). AreUnderWay w.objects (with_begun n job.bytes old.puts)) (sym window) are)
-    (all_begun (IsKnownPut plain old.volume.volume) n job.bytes old.puts (job_of_rig old plain n job h uploads open_ tells.1)
+    (all_begun (IsKnownPut plain old.volume.volume) n job.bytes old.puts
+    (job_of_rig old plain n job h uploads open_ (of.told all_told) tells.1)
     (known_puts old plain h))
     (event_keeps_removals plain events.TakeJob refl) (stored_marked n true old plain events.TakeJob h window refl) h.described
 

@@ -22,6 +22,7 @@ use Rattle.plain_disk.specs.Step.{plain_reply, plain_after}
 use Rattle.plain_disk.specs.Found.{SealsCheckpoints}
 use Rattle.plain_disk.proofs.CheckpointLemmas.{same_number}
 use Rattle.plain_disk.proofs.MarkedLemmas.{events_seal}
+use Rattle.refine_store.proofs.KeepLemmas.{copied_too}
 use Rattle.refine_store.specs.Puts.{IsObjectOf}
 use Rattle.transcript.specs.Answers.{removed_by}
 use Rattle.vol_core.specs.declared.event.Event.TheVariants.{TakeRemove, RemoveDone}
@@ -143,7 +144,14 @@ object_gone : (volume : Expected) (n : ℕ) (plain : PlainState) (number : ℕ) 
 object_gone volume n plain number bytes (inl is) =
     inl (record { first = is.first; rows = is.rows; is_checkpoint = is.is_checkpoint; says = is.says })
 object_gone volume n plain number bytes (inr is) =
-    inr (record { past = is.past; object = is.object; there = is.there; rows = is.rows; holds = is.holds })
+    inr (record {
+      past = is.past;
+      object = is.object;
+      there = is.there;
+      rows = is.rows;
+      holds = is.holds;
+      copied = copied_too plain (gone n plain) number bytes is.rows refl refl is.copied;
+    })
 
 other_name : (number n : ℕ) → (number ≡ n → ⊥) → numbered_name script_uuid number ≡ numbered_name script_uuid n → ⊥
 other_name number n other same = other (ap (λ (name : ObjName). name.number) same)
@@ -216,7 +224,13 @@ shows_gone n old middle volume receipt reply store plain h of back between now i
       described = removed_keeps_volume n old.objects store plain.geometry h.epoch removed h.described;
       begun = omega (arith, h.begun);
       uuid_is = now.uuid_is;
-      opens = record { number = h.opens.number; end = h.opens.end; opening = h.opens.opening; owned = h.opens.owned };
+      opens = record {
+        number = h.opens.number;
+        end = h.opens.end;
+        opening = h.opens.opening;
+        owned = h.opens.owned;
+        payloads = h.opens.payloads;
+      };
       seals = subst SealsCheckpoints (taken_is n plain h.removes.none_out is)
           (events_seal (plain_after events.TakeRemove plain) (events.RemoveDone n) between.shows.valid
           (events_seal plain events.TakeRemove h.shows.valid h.seals));

@@ -13,8 +13,8 @@ use Rattle.replay_rig.specs.declared.answer.Answer.TheVariants.{Entries, Sectors
 use Rattle.replay_rig.specs.declared.answer.Answer.TheVariants.{BatchFull, EntriesFull, NoRoom, Range, Nothing}
 use Rattle.replay_rig.specs.declared.answer.Answer.TheVariants.{Busy, Fault}
 
--- the answer that says a reply of the plain volume; those to a plan that is given back, to a put that fails, and to a removal
--- that is done or fails are no answers
+-- the answer that says a reply of the plain volume; those to a plan that is given back, to a put that fails, to a removal that is
+-- done or fails, and to the plan of a copy are no answers
 abbrev pub SaysReply : PlainReply → Answer → Type 0
 SaysReply (replies.Entered count) answer = answer ≡ Entries count
 SaysReply (replies.Flushed count) answer = answer ≡ Entries count
@@ -27,6 +27,8 @@ SaysReply replies.Returned answer = ⊥
 SaysReply (replies.Removing number) answer = answer ≡ Gone number
 SaysReply replies.Removed answer = ⊥
 SaysReply replies.GivenBack answer = ⊥
+SaysReply (replies.Copying sectors) answer = ⊥
+SaysReply replies.Dropped answer = ⊥
 SaysReply (replies.Told writes sealed frontier checkpoint) answer = answer ≡ Counts writes sealed frontier
 SaysReply (replies.BatchFull sectors) answer = answer ≡ BatchFull sectors
 SaysReply (replies.EntriesFull count) answer = answer ≡ EntriesFull count

@@ -32,7 +32,7 @@ pub record HasStreamUpTo (volume : Expected) (uuid_at : ℕ → Option (List ℕ
   pub base : missing.base ≡ stream.number
   pub opens : HasOpening volume uuid_at objects stream opening
   pub last : number ≤ last_number stream
-  pub stored : AreStored objects uuid_at volume stream.number stream.end stream.entries (objects_to stream number)
+  pub stored : AreStored objects uuid_at volume stream.number stream.end stream.entries stream.opening (objects_to stream number)
   pub past : AreWholePast volume objects number
 
 -- then its objects stand for the image that the history makes up to the end of the last of them, and no further

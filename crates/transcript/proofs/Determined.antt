@@ -8,7 +8,8 @@ use Rattle.plain_disk.specs.declared.event.PlainEvent.TheVariants as events
 use Rattle.plain_disk.specs.declared.event.PlainReply.{PlainReply}
 use Rattle.plain_disk.specs.declared.event.PlainReply.TheVariants.{Entered, Flushed, Planned, Released, Sealed, Taken, Done}
 use Rattle.plain_disk.specs.declared.event.PlainReply.TheVariants.{Returned, Removing, Removed, GivenBack, Told, BatchFull}
-use Rattle.plain_disk.specs.declared.event.PlainReply.TheVariants.{EntriesFull, NoRoom, Range, Nothing, Busy, Fault}
+use Rattle.plain_disk.specs.declared.event.PlainReply.TheVariants.{EntriesFull, NoRoom, Range, Nothing, Busy, Fault, Copying}
+use Rattle.plain_disk.specs.declared.event.PlainReply.TheVariants.{Dropped}
 use Rattle.replay_script.specs.declared.command.Command.{Command}
 use Rattle.replay_script.specs.declared.command.Command.TheVariants.{New, Write, Zero, Read, Flush, Seal, TakeJob, JobDone}
 use Rattle.replay_script.specs.declared.command.Command.TheVariants.{JobFailed, SealCheckpoint, Remove, Status, Stop}
@@ -36,6 +37,8 @@ one_telling Returned a b s t = absurd s
 one_telling (Removing number) a b s t = s ∙ sym t
 one_telling Removed a b s t = absurd s
 one_telling GivenBack a b s t = absurd s
+one_telling (Copying sectors) a b s t = s ∙ sym t
+one_telling Dropped a b s t = s ∙ sym t
 one_telling (Told writes sealed frontier checkpoint) a b s t = s ∙ sym t
 one_telling (BatchFull sectors) a b s t = s ∙ sym t
 one_telling (EntriesFull entries) a b s t = s ∙ sym t

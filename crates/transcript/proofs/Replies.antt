@@ -1,7 +1,7 @@
 -- Which replies the events of a line have, and that each of them has a text.
-use Rattle.std.proofs.Common.{ℕ, List, ◌++◌, refl}
-use Rattle.std.specs.Prelude.{Bool, true, false, not, if◌then◌else◌, Option, Some, None, IfSome, unwrap_or, option_map, codes}
-use Rattle.std.specs.Prelude.{decimal, length}
+use Rattle.std.proofs.Common.{ℕ, List, [], ◌∷◌, ◌++◌, refl}
+use Rattle.std.specs.Prelude.{Bool, true, false, not, ◌&&◌, if◌then◌else◌, Option, Some, None, is_some, IfSome, unwrap_or}
+use Rattle.std.specs.Prelude.{option_map, codes, decimal, length}
 use Rattle.std.specs.List.{sum_by}
 use Rattle.lsvd_base.specs.declared.entry.Entry.{Entry}
 use Rattle.lsvd_base.specs.declared.entry.Entry.TheVariants as entries
@@ -10,13 +10,15 @@ use Rattle.lsvd_base.specs.Range.{is_in_range}
 use Rattle.batcher.specs.Batch.{data_sectors, fullness}
 use Rattle.batcher.specs.declared.full.Full.{Full}
 use Rattle.batcher.specs.declared.full.Full.TheVariants as full
+use Rattle.object_stream.specs.declared.object.CopiedSector.{CopiedSector}
 use Rattle.upload_window.specs.Window.{lowest_ready}
 use Rattle.plain_disk.specs.declared.event.PlainEvent.{PlainEvent}
 use Rattle.plain_disk.specs.declared.event.PlainEvent.TheVariants as events
 use Rattle.plain_disk.specs.declared.event.PlainReply.{PlainReply}
 use Rattle.plain_disk.specs.declared.event.PlainReply.TheVariants.{Entered, Flushed, Planned, Released, Sealed, Taken, Done}
 use Rattle.plain_disk.specs.declared.event.PlainReply.TheVariants.{Returned, Removing, Removed, GivenBack, Told, BatchFull}
-use Rattle.plain_disk.specs.declared.event.PlainReply.TheVariants.{EntriesFull, NoRoom, Range, Nothing, Busy, Fault}
+use Rattle.plain_disk.specs.declared.event.PlainReply.TheVariants.{EntriesFull, NoRoom, Range, Nothing, Busy, Fault, Copying}
+use Rattle.plain_disk.specs.declared.event.PlainReply.TheVariants.{Dropped}
 use Rattle.plain_disk.specs.Cache.{PlainCache, passes_commit, passes_entry}
 use Rattle.plain_disk.specs.State.{PlainState, unsealed_entries}
 use Rattle.plain_disk.specs.Entries.{reply_of_full, batch_refusal, has_room_for, cache_for, commits_are_made, room_reply}
@@ -24,6 +26,7 @@ use Rattle.plain_disk.specs.Entries.{enter_reply}
 use Rattle.plain_disk.specs.Reads.{passes_look}
 use Rattle.plain_disk.specs.Objects.{is_busy, has_unsealed, reply_of_taken, is_under_way}
 use Rattle.plain_disk.specs.Removals.{reply_of_removal, to_remove}
+use Rattle.plain_disk.specs.Collection.{planned_copy, reply_of_plan}
 use Rattle.plain_disk.specs.Step.{plain_reply}
 use Rattle.replay_script.proofs.Runs.{some_run_text}
 use Rattle.transcript.specs.Answers.{TellsReply}
@@ -42,6 +45,8 @@ IsLineReply Returned = ⊥
 IsLineReply (Removing number) = Unit {0}
 IsLineReply Removed = ⊥
 IsLineReply GivenBack = ⊥
+IsLineReply (Copying sectors) = Unit {0}
+IsLineReply Dropped = Unit {0}
 IsLineReply (Told writes sealed frontier checkpoint) = Unit {0}
 IsLineReply (BatchFull sectors) = Unit {0}
 IsLineReply (EntriesFull count) = Unit {0}
@@ -64,6 +69,8 @@ some_telling Returned is = absurd is
 some_telling (Removing number) is = (codes "gone " ++ decimal number, refl)
 some_telling Removed is = absurd is
 some_telling GivenBack is = absurd is
+some_telling (Copying sectors) is = (codes "copied " ++ decimal (length sectors), refl)
+some_telling Dropped is = (codes "dropped", refl)
 some_telling (Told writes sealed frontier checkpoint) is =
     (codes "info " ++ decimal writes ++ codes " " ++ decimal sealed ++ codes " " ++ decimal frontier, refl)
 some_telling (BatchFull sectors) is = (codes "again batch " ++ decimal sectors, refl)
@@ -117,6 +124,11 @@ of_removal None None = tt
 of_removal None (Some number) = tt
 of_removal (Some other) lowest = tt
 
+of_plan : (out : Option (List CopiedSector)) (sectors : List CopiedSector) → IsLineReply (reply_of_plan out sectors)
+of_plan (Some plan) sectors = tt
+of_plan None [] = tt
+of_plan None (first ∷ more) = tt
+
 -- a line is answered by the reply to its event, unless that gives a plan back, ends a removal, or tells of a put that failed
 abbrev pub IsLineEvent : PlainEvent → Type 0
 IsLineEvent (events.Write lba body) = Unit {0}
@@ -132,6 +144,9 @@ IsLineEvent events.SealCheckpoint = Unit {0}
 IsLineEvent events.TakeRemove = Unit {0}
 IsLineEvent (events.RemoveDone number) = ⊥
 IsLineEvent (events.RemoveFailed number) = ⊥
+IsLineEvent events.PlanCopy = Unit {0}
+IsLineEvent (events.SealCopy is_planned) = Unit {0}
+IsLineEvent events.DropPlan = Unit {0}
 IsLineEvent events.Status = Unit {0}
 
 -- the other events have such replies
@@ -150,4 +165,8 @@ line_reply plain events.SealCheckpoint is = either (is_busy plain) _ _ tt tt
 line_reply plain events.TakeRemove is = of_removal plain.removal (to_remove plain)
 line_reply plain (events.RemoveDone number) is = absurd is
 line_reply plain (events.RemoveFailed number) is = absurd is
+line_reply plain events.PlanCopy is = of_plan plain.plan (planned_copy plain)
+line_reply plain (events.SealCopy is_planned) is =
+    either (is_some plain.plan && is_planned) _ _ (either (is_busy plain) _ _ tt tt) tt
+line_reply plain events.DropPlan is = either (is_some plain.plan) _ _ tt tt
 line_reply plain events.Status is = tt

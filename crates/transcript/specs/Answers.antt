@@ -7,7 +7,8 @@ use Rattle.plain_disk.specs.declared.event.PlainEvent.TheVariants as events
 use Rattle.plain_disk.specs.declared.event.PlainReply.{PlainReply}
 use Rattle.plain_disk.specs.declared.event.PlainReply.TheVariants.{Entered, Flushed, Planned, Released, Sealed, Taken, Done}
 use Rattle.plain_disk.specs.declared.event.PlainReply.TheVariants.{Returned, Removing, Removed, GivenBack, Told, BatchFull}
-use Rattle.plain_disk.specs.declared.event.PlainReply.TheVariants.{EntriesFull, NoRoom, Range, Nothing, Busy, Fault}
+use Rattle.plain_disk.specs.declared.event.PlainReply.TheVariants.{EntriesFull, NoRoom, Range, Nothing, Busy, Fault, Copying}
+use Rattle.plain_disk.specs.declared.event.PlainReply.TheVariants.{Dropped}
 use Rattle.plain_disk.specs.State.{PlainState, created_volume, history_length}
 use Rattle.plain_disk.specs.Step.{plain_reply, plain_after}
 use Rattle.plain_disk.specs.Stops.{stopping_after_calls, recovered_number, mounted_kept, mounted_lost}
@@ -36,6 +37,8 @@ TellsReply Returned text = ⊥
 TellsReply (Removing number) text = text ≡ codes "gone " ++ decimal number
 TellsReply Removed text = ⊥
 TellsReply GivenBack text = ⊥
+TellsReply (Copying sectors) text = text ≡ codes "copied " ++ decimal (length sectors)
+TellsReply Dropped text = text ≡ codes "dropped"
 TellsReply (Told writes sealed frontier checkpoint) text =
     text ≡ codes "info " ++ decimal writes ++ codes " " ++ decimal sealed ++ codes " " ++ decimal frontier
 TellsReply (BatchFull sectors) text = text ≡ codes "again batch " ++ decimal sectors

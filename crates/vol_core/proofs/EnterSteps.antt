@@ -401,7 +401,7 @@ module _ {R : Type 0} (state : R → ReceiptState) (entry : Entry) (old : Volume
       let ready = ready_shows (Ok both.at) both.ready log comes in
       let shown = added_shows both.at both.ready objects comes.same ready both.added in
       let table =
-      added_shows_table both.ready objects plain entry (both.at + 1) both.added
+      added_shows_table both.ready objects plain entry (both.at + 1) both.added shows.valid
       (ready_table (Ok both.at) both.ready log comes) in (
         step_by_parts state (told.Entered count) old plain shows objects log entry
             (came_parts (Ok both.at) both.ready log comes (told.Entered count) objects tells shown table),

@@ -60,6 +60,7 @@ still_plain left pins plain is = record {
   limits = is.limits;
   sectors = is.sectors;
   owned = is.owned;
+  payloads = is.payloads;
   in_range = is.in_range;
   stream = is.stream;
   window = is.window;

@@ -24,7 +24,7 @@ use Rattle.plain_disk.specs.Step.{plain_reply, plain_after, is_refusal}
 use Rattle.plain_disk.specs.Valid.{IsPlainVolume}
 use Rattle.plain_disk.proofs.EndLemmas.{ends_grow}
 use Rattle.plain_disk.proofs.EventLemmas.{seal_keeps, take_keeps, done_keeps, failed_keeps}
-use Rattle.refine_objects.specs.Shows.{ShowsObjects}
+use Rattle.refine_objects.specs.Shows.{ShowsObjects, TellsAsOne}
 use Rattle.refine_objects.specs.Table.{ShowsTable}
 use Rattle.refine_objects.proofs.ShowLemmas.{shown_have_counts, room_shows_same}
 use Rattle.refine_objects.proofs.SealLemmas.{with_sealed, sealed_end, sealed_shows_seal, refused_seal_shows_none}
@@ -246,9 +246,10 @@ module _ {R : Type 0} (state : R → ReceiptState) (old : VolumeState) (objects 
 
   pub done_steps : (job : JobState) (receipt : R) (reply : Reply R)
       → IsUploads old.objects.uploads → IsUploads objects.uploads
-      → IsReceiptFor job.bytes (state receipt) → Finishes state job receipt reply old.objects objects
+      → IsReceiptFor job.bytes (state receipt) → TellsAsOne objects.uploads.queue
+      → Finishes state job receipt reply old.objects objects
       → StepsAsPlain state (JobDone job receipt) reply old changed
-  done_steps job receipt (told.Done frontier) uploads now_uploads own done plain shows =
+  done_steps job receipt (told.Done frontier) uploads now_uploads own alike done plain shows =
       let number = job.name.number in
       let data_at = shows.data_at in
       let shown = shows.objects in
@@ -257,7 +258,7 @@ module _ {R : Type 0} (state : R → ReceiptState) (old : VolumeState) (objects 
       let way = out_is_under_way plain number shows out.started in
       let counts = shown_have_counts data_at old.objects plain uploads shows.valid shown in
       let later = done_frontier data_at old.objects objects plain number job.bytes (state receipt) uploads shows.valid shown out
-      own put done.2 in
+      own put alike done.2 in
       let grows = done_leaves number plain.window (omega (arith, counts.frontier, put.settled.frontier, later)) in
       let leaves =
       window_changes plain (window_after_done (Some number) plain.window) (checkpoint_after_done (Some number) plain) shows.valid
@@ -265,7 +266,7 @@ module _ {R : Type 0} (state : R → ReceiptState) (old : VolumeState) (objects 
       let now =
       objects_shown old objects plain (after_done (Some number) plain) shows leaves (done_keeps plain (Some number) shows.valid)
       (done_shows_done data_at old.objects objects plain number job.bytes (state receipt) uploads shows.valid shown out own
-      put done.2)
+      put alike done.2)
       (done_shows_table data_at old.objects objects plain number job.bytes (state receipt) uploads now_uploads shows.valid
       (record { objects = shown; table = shows.table }) out put) in
       let tells : done_reply plain (Some number) ≡ replies.Done frontier =
@@ -273,10 +274,10 @@ module _ {R : Type 0} (state : R → ReceiptState) (old : VolumeState) (objects 
       ∙ ap replies.Done (sym (done.3 ∙ later)) in
       inl (quiet_step state (JobDone job receipt) (told.Done frontier) plain old changed (events.JobDone (Some number)) shows
       (Some number, refl, (refl, out, done.0.1)) tells now refl refl)
-  done_steps job receipt (told.NotDone back given) uploads now_uploads own done plain shows =
+  done_steps job receipt (told.NotDone back given) uploads now_uploads own alike done plain shows =
       inl (unchanged (JobDone job receipt) (told.NotDone back given) plain (events.JobDone None) shows done.3 refl
       (None, refl, done.0) refl)
-  done_steps job receipt reply uploads now_uploads own done plain shows = absurd done
+  done_steps job receipt reply uploads now_uploads own alike done plain shows = absurd done
 
   -- ---- a seal
 
@@ -303,7 +304,8 @@ module _ {R : Type 0} (state : R → ReceiptState) (old : VolumeState) (objects 
       let leaves = seal_changes plain (has_unsealed plain && not (is_busy plain)) shows.valid in
       let now =
       objects_shown old objects plain (after_seal plain) shows leaves (seal_keeps plain shows.valid) shown.0
-      (sealed_shows_table old.objects objects plain seals.0 shows.table) in
+      (sealed_shows_table shows.data_at old.objects objects plain uploads shows.valid
+      (record { objects = shows.objects; table = shows.table }) seals.0) in
       inl (quiet_step state Seal (told.Sealed number) plain old changed events.Seal shows refl (shown.1
       ∙ ap replies.Sealed (sym seals.1)) now
       refl leaves.cache)

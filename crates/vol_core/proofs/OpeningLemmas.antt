@@ -1,11 +1,14 @@
 -- A volume that shows a plain volume whose first objects were folded into its image shows that volume as it opens.
-use Rattle.std.proofs.Common.{◌≡◌, ℕ, ◌≤◌, Option, Some, None, IfSome, List, sym, ◌∙◌, ap, subst}
+use Rattle.std.proofs.Common.{◌≡◌, ℕ, ◌<◌, ◌≤◌, Option, Some, None, IfSome, List, ◌∷◌, sym, ◌∙◌, ap, subst}
+use Rattle.std.specs.Prelude.{slice_index_or}
 use Rattle.std.proofs.Math.Path.{subst₂}
 use Rattle.lsvd_base.specs.declared.entry.Entry.{Entry}
 use Rattle.cache_log.specs.Log.{LogState, AreRowsOf}
+use Rattle.object_table.specs.declared.row.ObjectRow.{ObjectRow}
+use Rattle.object_table.specs.Table.{row_of}
 use Rattle.object_uploads.specs.State.{QueueState}
-use Rattle.plain_disk.specs.State.{PlainState, frontier_end, logged_entries, folded_to}
-use Rattle.plain_disk.proofs.FoldLemmas.{MayFold, frontier_end_of_fold, logged_of_fold}
+use Rattle.plain_disk.specs.State.{PlainState, frontier_end, logged_entries, payload_of, folded_to}
+use Rattle.plain_disk.proofs.FoldLemmas.{MayFold, frontier_end_of_fold, logged_of_fold, payloads_of_fold}
 use Rattle.refine_log.specs.Logged.{listed_from, HasLoggedEntries}
 use Rattle.refine_objects.specs.Table.{ShowsTable}
 use Rattle.refine_objects.proofs.FoldedShown.{shown_from_first}
@@ -36,18 +39,28 @@ module _ (plain : PlainState) (number : ℕ) (h : MayFold plain number) where
         placed = is.placed;
       }
 
--- folding changes nothing that a table tells
-table_from_first : (plain : PlainState) (number : ℕ) (queue : QueueState) → ShowsTable queue (folded_to number plain)
-    → ShowsTable queue plain
-table_from_first plain number queue is = record {
-  checkpoint = is.checkpoint;
-  removal = is.removal;
-  known = is.known;
-  unmapped = is.unmapped;
-  pins = is.pins;
-  free = is.free;
-  gone = is.gone;
-}
+  -- so have the objects of a table their payload
+  payloads_from_first : (other : ℕ) (found : Option ObjectRow)
+      → IfSome found (λ row. 0 < row.live → row.payload ≡ payload_of (folded_to number plain) other)
+      → IfSome found (λ row. 0 < row.live → row.payload ≡ payload_of plain other)
+  payloads_from_first other None has = tt
+  payloads_from_first other (Some row) has = λ live.
+      has live ∙ ap (λ (list : List ℕ). slice_index_or (0 ∷ list) other 0) (payloads_of_fold plain number h)
+
+  -- folding changes nothing that a table tells
+  table_from_first : (queue : QueueState) → ShowsTable queue (folded_to number plain) → ShowsTable queue plain
+  table_from_first queue is = record {
+    checkpoint = is.checkpoint;
+    removal = is.removal;
+    known = is.known;
+    unmapped = is.unmapped;
+    pins = is.pins;
+    copied = is.copied;
+    payload = λ other. payloads_from_first other (row_of other queue.maps.objects.rows) (is.payload other);
+    free = is.free;
+    gone = is.gone;
+    reached = is.reached;
+  }
 
 pub shows_from_first : ShowsFromFirst
 shows_from_first volume plain number valid from to none placed shows =
@@ -56,7 +69,7 @@ shows_from_first volume plain number valid from to none placed shows =
       valid = valid;
       data_at = shows.data_at;
       objects = shown_from_first shows.data_at volume.objects plain number valid from to none placed shows.objects;
-      table = table_from_first plain number volume.objects.uploads.queue shows.table;
+      table = table_from_first plain number h volume.objects.uploads.queue shows.table;
       log = shows.log;
       logged = logged_from_first plain number h shows.data_at volume.log shows.logged;
       fuse = shows.fuse;

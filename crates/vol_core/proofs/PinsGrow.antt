@@ -6,6 +6,7 @@ use Rattle.std.proofs.lemmas.List.Kept.{AllPairs-filter}
 use Rattle.std.proofs.lemmas.List.Sums.{sum_by-append}
 use Rattle.lsvd_base.specs.Limits.{may_transfer}
 use Rattle.lsvd_objstore.specs.Store.{ReceiptState}
+use Rattle.object_stream.specs.declared.object.CopiedSector.{CopiedSector}
 use Rattle.object_stream.specs.declared.object.Content.TheVariants.{Data, Checkpoint}
 use Rattle.object_stream.specs.Stream.{end_at, last_number}
 use Rattle.upload_window.specs.Window.{entered}
@@ -16,6 +17,7 @@ use Rattle.plain_disk.specs.State.{PlainState, stream_in, frontier_of}
 use Rattle.plain_disk.specs.Objects.{has_unsealed, is_busy, end_of_next}
 use Rattle.plain_disk.specs.Reads.{is_read_from, objects_read, look_calls, passes_look, unpinned, are_pinned, without_pins}
 use Rattle.plain_disk.specs.Removals.{to_remove, with_removal, is_out}
+use Rattle.plain_disk.specs.Collection.{planned_copy, with_plan, after_sealed_copy}
 use Rattle.plain_disk.specs.Step.{plain_after}
 use Rattle.refine_objects.specs.Table.{times_pinned}
 use Rattle.vol_core.specs.declared.event.Event.{Event}
@@ -79,6 +81,18 @@ removal_pins number None None plain = no_more (times_pinned number plain.pins)
 removal_pins number None (Some removed) plain = no_more (times_pinned number plain.pins)
 removal_pins number (Some other) lowest plain = no_more (times_pinned number plain.pins)
 
+plan_pins : (number : ℕ) (out : Option (List CopiedSector)) (sectors : List CopiedSector) (plain : PlainState)
+    → times_pinned number (with_plan out sectors plain).pins ≤ times_pinned number plain.pins + 1
+plan_pins number None [] plain = no_more (times_pinned number plain.pins)
+plan_pins number None (first ∷ more) plain = no_more (times_pinned number plain.pins)
+plan_pins number (Some plan) sectors plain = no_more (times_pinned number plain.pins)
+
+copy_pins : (number : ℕ) (is_sealed : Bool) (out : Option (List CopiedSector)) (plain : PlainState)
+    → times_pinned number (after_sealed_copy is_sealed out plain).pins ≤ times_pinned number plain.pins + 1
+copy_pins number is_sealed None plain = no_more (times_pinned number plain.pins)
+copy_pins number true (Some plan) plain = no_more (times_pinned number plain.pins)
+copy_pins number false (Some plan) plain = no_more (times_pinned number plain.pins)
+
 -- an event pins each object once at most
 pub pins_after : (number : ℕ) (event : PlainEvent) (plain : PlainState)
     → times_pinned number (plain_after event plain).pins ≤ times_pinned number plain.pins + 1
@@ -128,6 +142,10 @@ pins_after number (events.RemoveFailed removed) plain =
     let none = no_more (times_pinned number plain.pins) in
     either_pins number (times_pinned number plain.pins + 1) (is_out removed plain.removal) (record plain { removal = None }) plain
     none none
+pins_after number events.PlanCopy plain = plan_pins number plain.plan (planned_copy plain) plain
+pins_after number (events.SealCopy is_planned) plain =
+    copy_pins number (is_planned && not (is_busy plain)) plain.plan plain
+pins_after number events.DropPlan plain = no_more (times_pinned number plain.pins)
 pins_after number events.Status plain = no_more (times_pinned number plain.pins)
 
 -- ---- a volume

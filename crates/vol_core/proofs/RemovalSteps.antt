@@ -16,6 +16,7 @@ use Rattle.plain_disk.specs.declared.event.PlainEvent.TheVariants as events
 use Rattle.plain_disk.specs.State.{PlainState}
 use Rattle.plain_disk.specs.Removals.{to_remove, with_removal, after_take_remove, is_out, after_remove_done, after_remove_failed}
 use Rattle.plain_disk.proofs.EventLemmas.{take_remove_keeps, remove_done_keeps, remove_failed_keeps}
+use Rattle.refine_objects.specs.Shows.{TellsAsOne}
 use Rattle.refine_objects.specs.TableLaws.{ShowsBoth}
 use Rattle.refine_objects.proofs.RemovalShown.{taken_shows_removal, none_taken_shows_none, finished_shows_removed}
 use Rattle.refine_objects.proofs.RemovalShown.{taken_back_shows_given_back, not_out_shows_nothing}
@@ -167,21 +168,22 @@ module _ {R : Type 0} (state : R → ReceiptState) (old : VolumeState) (objects 
   both_shown plain shows = record { objects = shows.objects; table = shows.table }
 
   taken_steps : (reply : Reply R) → IsUploads old.objects.uploads → IsUploads objects.uploads
-      → TakesLowestRemovable state reply old.objects objects → StepsAsPlain state TakeRemove reply old changed
-  taken_steps (told.Removing receipt) uploads after taken plain shows =
+      → TellsAsOne old.objects.uploads.queue → TakesLowestRemovable state reply old.objects objects
+      → StepsAsPlain state TakeRemove reply old changed
+  taken_steps (told.Removing receipt) uploads after alike taken plain shows =
       let number = (state receipt).name.number in
       let shown = taken_shows_removal shows.data_at old.objects objects plain number (state receipt) uploads after shows.valid
-      (both_shown plain shows) taken.next taken.taken taken.batch in
+      (both_shown plain shows) taken.next taken.taken alike taken.batch in
       let leaves = removal_changes plain.removal (to_remove plain) plain in
       let now =
       objects_shown old objects plain (after_take_remove plain) shows leaves (take_remove_keeps plain shows.valid)
       shown.0.objects shown.0.table in
       inl (quiet_step state TakeRemove (told.Removing receipt) plain old changed events.TakeRemove shows refl
       (shown.1, taken.named) now refl leaves.cache)
-  taken_steps told.Nothing uploads after taken plain shows =
+  taken_steps told.Nothing uploads after alike taken plain shows =
       let none = none_taken_shows_none shows.data_at old.objects plain uploads shows.valid (both_shown plain shows) taken.0 in
       inl (unchanged state old objects TakeRemove told.Nothing plain events.TakeRemove shows taken.1 none.1 refl none.0)
-  taken_steps reply uploads after taken plain shows = absurd taken
+  taken_steps reply uploads after alike taken plain shows = absurd taken
 
   -- ---- it is done
 
@@ -227,12 +229,12 @@ module _ {R : Type 0} (state : R → ReceiptState) (old : VolumeState) (objects 
 
   module _ (plain : PlainState) (shows : Shows old plain) (uploads : IsUploads old.objects.uploads)
       (after : IsUploads objects.uploads) where
-    pub step_of_removal : (reply : Reply R) → TakesLowestRemovable state reply old.objects objects
-        → StepOf state TakeRemove reply old changed
-    step_of_removal reply taken =
+    pub step_of_removal : (reply : Reply R) → TellsAsOne old.objects.uploads.queue
+        → TakesLowestRemovable state reply old.objects objects → StepOf state TakeRemove reply old changed
+    step_of_removal reply alike taken =
         let quiet = taken_quiet reply taken in
         step_of_list state old objects plain shows TakeRemove reply (taken_list state reply old.objects objects taken) tt
-        (taken_steps reply uploads after taken) quiet.counts quiet.bytes
+        (taken_steps reply uploads after alike taken) quiet.counts quiet.bytes
 
     pub step_of_removed : (number : ℕ) (reply : Reply R) → FinishesRemoving number reply old.objects objects
         → StepOf state (RemoveDone number) reply old changed

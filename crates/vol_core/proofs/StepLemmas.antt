@@ -39,6 +39,7 @@ passing_keeps left plain valid = record {
   limits = valid.limits;
   sectors = valid.sectors;
   owned = valid.owned;
+  payloads = valid.payloads;
   in_range = valid.in_range;
   stream = valid.stream;
   window = valid.window;

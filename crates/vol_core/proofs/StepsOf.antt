@@ -13,6 +13,7 @@ use Rattle.object_uploads.specs.Order.{IsUploads}
 use Rattle.object_uploads.specs.Image.{IsReceiptFor}
 use Rattle.obj_log.specs.State.{ObjLogState}
 use Rattle.plain_disk.specs.State.{PlainState}
+use Rattle.refine_objects.specs.Shows.{TellsAsOne}
 use Rattle.read_plan.specs.Plan.{PlanState}
 use Rattle.vol_core.specs.declared.event.Event.{Event}
 use Rattle.vol_core.specs.declared.event.Event.TheVariants.{Release, Seal, TakeJob, JobDone, JobFailed}
@@ -123,11 +124,12 @@ module _ {R : Type 0} (state : R → ReceiptState) (old : VolumeState) (objects 
 
   pub step_of_done : (job : JobState) (receipt : R) (reply : Reply R)
       → IsUploads old.objects.uploads → IsUploads objects.uploads → IsReceiptFor job.bytes (state receipt)
+      → TellsAsOne objects.uploads.queue
       → Finishes state job receipt reply old.objects objects
       → StepOf state (JobDone job receipt) reply old (with_objects objects old)
-  step_of_done job receipt reply uploads now_uploads own done =
+  step_of_done job receipt reply uploads now_uploads own alike done =
       step_of_list (JobDone job receipt) reply (done_list state job receipt reply old.objects objects done) tt
-      (done_steps state old objects job receipt reply uploads now_uploads own done)
+      (done_steps state old objects job receipt reply uploads now_uploads own alike done)
       (done_grow old objects state job receipt reply done)
       (finishing_keeps_bytes old objects state job receipt reply done uploads)
 

@@ -10,7 +10,8 @@ use Rattle.commit_slot.specs.Commits.{first_half_cost, second_half_cost, no_cost
 use Rattle.upload_window.specs.Window.{has_number}
 use Rattle.object_uploads.specs.Queue.{HasBytesAt}
 use Rattle.object_uploads.specs.Changes.{index_of}
-use Rattle.object_uploads.specs.Image.{IsReceiptFor}
+use Rattle.object_uploads.specs.Image.{IsReceiptFor, TellAlike}
+use Rattle.stopped_volume.specs.Store.{TellsBytes}
 use Rattle.refine_log.specs.Pending.{ShowsPending}
 use Rattle.plain_disk.specs.declared.event.PlainEvent.{PlainEvent}
 use Rattle.plain_disk.specs.State.{PlainState}
@@ -177,11 +178,13 @@ pub record StepOf {R : Type 0} (state : R → ReceiptState) (event : Event R) (r
   pub faults : CountsFault reply old new
   pub bytes : KeepsBytes old new
 
--- the same of a volume that counts its steps: it is one before and after, and its log and its uploads are in order before
+-- The same of a volume that counts its steps: it is one before and after, and its log and its uploads are in order before. Where
+-- all receipts tell bytes, those that it knew did.
 pub record CountedStep {R : Type 0} (state : R → ReceiptState) (event : Event R) (reply : Reply R) (old new : SteppedVolume) :
     Type 0 where
   pub step : StepOf state event reply old.volume new.volume
   pub count : new.steps ≡ old.steps + 1
+  pub told : TellsBytes state → TellAlike true old.volume.objects.uploads.queue
   pub was : IsVolume old
   pub order : IsSound old.volume
   pub is : IsVolume new

@@ -1,5 +1,6 @@
 ghost use Rattle.std.specs.Prelude.{◌≡◌, ◌+◌, ◌-◌, ◌^◌, ◌<◌};
 ghost use Rattle.object_uploads.specs.Order.{IsUploads};
+ghost use Rattle.object_uploads.specs.Image.{TellAlike};
 ghost use Rattle.vol_core.specs.Calls.{Seals, SealsCheckpoint, TakesLowestReady, Finishes, Returns};
 
 use crate::reply::Reply;
@@ -51,11 +52,14 @@ pub(crate) fn take_job<R: Receipt>(objects: &mut ObjLog<R>) -> Reply<R>
 pub(crate) fn job_done<R: Receipt>(objects: &mut ObjLog<R>, job: Job, receipt: R) -> Reply<R>
     ensures done { Finishes R.state job receipt result objects.old objects.new }
     ensures order { IsUploads objects.new.uploads }
+    ensures alike { TellAlike R.tells objects.new.uploads.queue }
 {
-    match objects.uploads_mut().job_done(&job, receipt) {
+    let reply = match objects.uploads_mut().job_done(&job, receipt) {
         Ok(frontier) => Reply::Done(frontier),
         Err(receipt) => Reply::NotDone { job, receipt },
-    }
+    };
+    objects.uploads().tell_alike();
+    reply
 }
 
 /// A put failed.

@@ -1,4 +1,5 @@
 ghost use Rattle.object_uploads.specs.Order.{IsUploads};
+ghost use Rattle.object_uploads.specs.Image.{TellAlike};
 ghost use Rattle.vol_core.specs.Calls.{TakesLowestRemovable, FinishesRemoving, GivesBackRemoval};
 
 use crate::reply::Reply;
@@ -9,7 +10,9 @@ use obj_log::ObjLog;
 pub(crate) fn take_remove<R: Receipt>(objects: &mut ObjLog<R>) -> Reply<R>
     ensures begun { TakesLowestRemovable R.state result objects.old objects.new }
     ensures order { IsUploads objects.new.uploads }
+    ensures alike { TellAlike R.tells objects.old.uploads.queue }
 {
+    objects.uploads().tell_alike();
     match objects.uploads_mut().take_remove() {
         Some(receipt) => Reply::Removing(receipt),
         None => Reply::Nothing,

@@ -1,10 +1,12 @@
-ghost use Rattle.std.specs.Prelude.{◌≡◌, ℕ, ◌+◌, ◌<◌, false, IsTrue};
+ghost use Rattle.std.specs.Prelude.{◌≡◌, ℕ, ◌+◌, ◌<◌, true, false, IsTrue};
 ghost use Rattle.std.specs.Fn.{FnOnceReturnsAtMut};
 ghost use Rattle.lsvd_base.specs.Limits.{is_within_limits};
 ghost use Rattle.lsvd_device.specs.Device.{IsDisk};
 ghost use Rattle.commit_slot.specs.Lending.{ChangesBudgetAlone};
 ghost use Rattle.cache_log.specs.Committed.{IsOnDisk};
+ghost use Rattle.object_uploads.specs.Image.{TellAlike};
 ghost use Rattle.stopped_volume.specs.Device.{CacheOwner};
+ghost use Rattle.stopped_volume.specs.Store.{TellsBytes};
 ghost use Rattle.plain_disk.specs.State.{PlainState};
 ghost use Rattle.refine_log.specs.Fuses.{fuse_in};
 ghost use Rattle.vol_core.specs.Volume.{volume_of, with_budget_of};
@@ -80,8 +82,8 @@ impl<D: Disk, R: Receipt> Volume<D, R> {
     /// failed, which the device counted once. Where the device has room for them, as many writes are pending
     /// on it after the step as on the plain volume's cache, if so many were before. A step adds an entry and
     /// an object at most, makes two commits at most, and pins each object once at most. What is so of every
-    /// volume is told of the one before the step, with the order of its log and its uploads, and of the one
-    /// after it.
+    /// volume is told of the one before the step, with the order of its log and its uploads and with what its
+    /// receipts tell, and of the one after it.
     pub fn step(&mut self, event: Event<R>) -> Reply<R>
         requires steps { self.old.steps < max_number }
         requires receipt { HasItsReceipt R.state event }
@@ -114,13 +116,16 @@ impl<D: Disk, R: Receipt> Volume<D, R> {
     }
 
     /// What is so of every volume, as facts for the proofs of callers: it shows a plain volume, its numbers
-    /// are bounded by its steps, and its log and its uploads are in order. Nothing is done.
+    /// are bounded by its steps, its log and its uploads are in order, and where all receipts tell bytes,
+    /// those that it knows do. Nothing is done.
     pub fn is_volume(&self)
         ensures shown { IsVolume self.now }
         ensures order { IsSound self.now.volume }
+        ensures told { TellsBytes R.state → TellAlike true self.now.volume.objects.uploads.queue }
     {
         self.log.on_disk();
         self.objects.uploads().frontier();
+        self.objects.uploads().tell_alike();
     }
 
     /// The device.
@@ -171,6 +176,7 @@ impl<D: Disk, R: Receipt> Volume<D, R> {
     fn count_step(&mut self)
         requires { self.old.steps < max_number }
         ensures was { IsVolume self.old }
+        ensures told { TellsBytes R.state → TellAlike true self.old.volume.objects.uploads.queue }
         ensures ready { IsReadyForStep self.new }
         ensures counted { self.new ≡ record self.old { steps = self.old.steps + 1 } }
     {

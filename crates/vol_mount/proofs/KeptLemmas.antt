@@ -285,7 +285,7 @@ module _ (uuid : List ℕ) (geometry : Geometry) (epoch : ℕ) (list : ObjLogSta
       entries_go_on place_of geometry checkpoint end_is plain done.entries found_log list objects rest (shows place_of)
       (done.added a_row) in
       let of_table : ShowsTable objects.uploads.queue now =
-      entries_keep_table place_of plain done.entries found_log list objects table (done.added a_row) in
+      entries_keep_table place_of plain done.entries found_log list objects rest.valid table (done.added a_row) in
       let rows : AreRowsOf new.rows done.entries = subst (λ r. AreRowsOf r done.entries) (sym done.same.rows) done.rows in
       let told : IfSome new.entries (λ l. l ≡ done.entries) =
       subst (λ t. IfSome t (λ l. l ≡ done.entries)) (sym done.same.entries) done.told in

@@ -39,7 +39,6 @@ use Rattle.vol_mount.specs.Steps.{IsRecovered, IsRecoveredFrom}
 pub no_device_fault : (error : RecoverError) → is_device_fault (of_recovery error) ≡ false
 no_device_fault recovery.NoCheckpoint = refl
 no_device_fault (recovery.BadObject number reason) = refl
-no_device_fault (recovery.NotData number) = refl
 no_device_fault (recovery.MissingObject number) = refl
 no_device_fault recovery.StoreFault = refl
 no_device_fault recovery.OutOfMemory = refl
@@ -47,7 +46,6 @@ no_device_fault recovery.OutOfMemory = refl
 pub same_fault : (error : RecoverError) → is_store_fault_of (of_recovery error) ≡ is_store_fault error
 same_fault recovery.NoCheckpoint = refl
 same_fault (recovery.BadObject number reason) = refl
-same_fault (recovery.NotData number) = refl
 same_fault (recovery.MissingObject number) = refl
 same_fault recovery.StoreFault = refl
 same_fault recovery.OutOfMemory = refl
@@ -63,7 +61,6 @@ pub why_of : (error : RecoverError) (uuid : List ℕ) (geometry : Geometry) (obj
     → IsWhyNotStored uuid geometry objects (of_recovery error)
 why_of recovery.NoCheckpoint uuid geometry objects refused = none_is uuid geometry objects refused
 why_of (recovery.BadObject number reason) uuid geometry objects refused = refused
-why_of (recovery.NotData number) uuid geometry objects refused = refused
 why_of (recovery.MissingObject number) uuid geometry objects refused = refused
 why_of recovery.StoreFault uuid geometry objects refused = tt
 why_of recovery.OutOfMemory uuid geometry objects refused = tt
@@ -93,8 +90,6 @@ no_refusal_of recovery.NoCheckpoint uuid geometry objects refused = λ plain num
     absurd (refuses_none recovery.NoCheckpoint uuid geometry objects tt refused plain number stored)
 no_refusal_of (recovery.BadObject n reason) uuid geometry objects refused = λ plain number stored.
     absurd (refuses_none (recovery.BadObject n reason) uuid geometry objects tt refused plain number stored)
-no_refusal_of (recovery.NotData n) uuid geometry objects refused = λ plain number stored.
-    absurd (refuses_none (recovery.NotData n) uuid geometry objects tt refused plain number stored)
 no_refusal_of (recovery.MissingObject n) uuid geometry objects refused = λ plain number stored.
     absurd (refuses_none (recovery.MissingObject n) uuid geometry objects tt refused plain number stored)
 no_refusal_of recovery.StoreFault uuid geometry objects refused = λ plain number stored. refl
@@ -255,7 +250,7 @@ list_of_told uuid geometry plain number objects log checkpoint limits is from st
       shows = λ data_at.
           recovered_shows_objects uuid data_at geometry.log plain number objects log stored.valid has up_to recovered;
       table =
-          recovered_shows_table uuid geometry.log plain number objects log stored.valid has up_to recovered.number_is
+          recovered_shows_table uuid geometry.log plain number objects log stored.valid has up_to recovered.number_is is.order
           (subst (λ n. HasTableFrom n log.uploads.queue) (sym first) is.table)
           (subst (λ g. KnowsObjects (expected_of uuid g) objects plain.checkpoint.number log.uploads.queue) sizes knows);
       end_is = recovered.end_is;
@@ -277,7 +272,6 @@ list_of uuid geometry plain number (Some objects) log checkpoint limits is from 
 pub removal_faults : (error : RecoverError) → IsNoAnswer error → IsFault (of_recovery error)
 removal_faults recovery.NoCheckpoint is = absurd is
 removal_faults (recovery.BadObject number reason) is = absurd is
-removal_faults (recovery.NotData number) is = absurd is
 removal_faults (recovery.MissingObject number) is = absurd is
 removal_faults recovery.StoreFault is = tt
 removal_faults recovery.OutOfMemory is = tt

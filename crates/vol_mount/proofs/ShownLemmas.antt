@@ -30,8 +30,11 @@ shown data_at objects log plain valid shows table of_log logged = record {
     known = table.known;
     unmapped = table.unmapped;
     pins = table.pins;
+    copied = table.copied;
+    payload = table.payload;
     free = table.free;
     gone = table.gone;
+    reached = table.reached;
   };
   log = of_log;
   logged = record { first = logged.first; rows = logged.rows; entries = logged.entries; placed = logged.placed };

@@ -33,6 +33,7 @@ knows_then volume objects base old new same knows = record {
   known = λ number low high. rw same.rows (knows.known number low (subst (λ n. number ≤ n) same.frontier high));
   unmapped = λ end owned is number. rw same.rows (knows.unmapped end owned is number);
   places = λ end owned is k place there. knows.places end owned is k place (rw (sym same.placed) there);
+  payloads = λ k place there. rw same.rows (knows.payloads k place (rw (sym same.placed) there));
 }
 
 pub knows_added : (volume : Expected) (objects : Option Objects) (base : ℕ) (old new : QueueState) → HasSameObjects old new

@@ -24,7 +24,7 @@ use Rattle.object_stream.specs.Stream.{Stream, Owners, end_at}
 use Rattle.stopped_volume.specs.Objects.{landed_in}
 use Rattle.stopped_volume.specs.Opening.{IsCheckpointOf}
 use Rattle.stopped_volume.specs.Device.{CacheOwner, owner_of}
-use Rattle.refusals.specs.declared.refusal.Refusal.TheVariants.{NoVolume, BadSuper, NoCheckpoint, BadObject, NotData}
+use Rattle.refusals.specs.declared.refusal.Refusal.TheVariants.{NoVolume, BadSuper, NoCheckpoint, BadObject}
 use Rattle.refusals.specs.declared.refusal.Refusal.TheVariants.{MissingObject, NoSlot, WrongVolume, StaleCache, BadRecord, Worn}
 use Rattle.super_recovery.specs.declared.error.SuperError.{SuperError}
 use Rattle.super_recovery.specs.declared.error.SuperError.TheVariants as supers
@@ -41,7 +41,6 @@ use Rattle.vol_mount.specs.declared.error.MountError.TheVariants.{Refused, Store
 abbrev pub of_recovery : RecoverError → MountError
 of_recovery recovery.NoCheckpoint = Refused NoCheckpoint
 of_recovery (recovery.BadObject number reason) = Refused (BadObject number reason)
-of_recovery (recovery.NotData number) = Refused (NotData number)
 of_recovery (recovery.MissingObject number) = Refused (MissingObject number)
 of_recovery recovery.StoreFault = StoreFault
 of_recovery recovery.OutOfMemory = OutOfMemory
@@ -138,8 +137,6 @@ IsWhyNotStored uuid geometry objects (Refused NoCheckpoint) =
     IfSome objects (λ objects. (number : ℕ) → 0 < number → IsNoCheckpoint (expected_of uuid geometry) objects number)
 IsWhyNotStored uuid geometry objects (Refused (BadObject number reason)) =
     IfSome objects (λ objects. IsRecoveryRefused (expected_of uuid geometry) objects (recovery.BadObject number reason))
-IsWhyNotStored uuid geometry objects (Refused (NotData number)) =
-    IfSome objects (λ objects. IsRecoveryRefused (expected_of uuid geometry) objects (recovery.NotData number))
 IsWhyNotStored uuid geometry objects (Refused (MissingObject number)) =
     IfSome objects (λ objects. IsRecoveryRefused (expected_of uuid geometry) objects (recovery.MissingObject number))
 IsWhyNotStored uuid geometry objects StoreFault = Unit {0}

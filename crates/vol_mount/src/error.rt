@@ -37,7 +37,6 @@ impl From<RecoverError> for MountError {
             RecoverError::BadObject { number, reason } => {
                 MountError::Refused(Refusal::BadObject { number, reason })
             }
-            RecoverError::NotData { number } => MountError::Refused(Refusal::NotData { number }),
             RecoverError::MissingObject { number } => {
                 MountError::Refused(Refusal::MissingObject { number })
             }

@@ -46,8 +46,7 @@ use std::alloc::Global;
 /// error leaves. An error comes with the device, which is a disk still. What is tested comes in this order,
 /// and each error says that the tests before it were passed:
 ///
-/// - `NoCheckpoint`, `BadObject`, `NotData`, `MissingObject`: the objects are refused. The device is as it
-///   was.
+/// - `NoCheckpoint`, `BadObject`, `MissingObject`: the objects are refused. The device is as it was.
 /// - `NoSlot`: no slot of the device is open; it was but synced then. After the others that refuse the device
 ///   it keeps the commit that it reads as.
 /// - `WrongVolume`: the commit is of a volume with another uuid.

@@ -36,7 +36,7 @@ use super_recovery::put_epoch;
 /// such a mount is to make. An error comes with the device, which is a disk still. What is tested comes in
 /// this order, and each error says that the tests before it were passed:
 ///
-/// - `NoCheckpoint`, `BadObject`, `NotData`, `MissingObject`: the objects are refused.
+/// - `NoCheckpoint`, `BadObject`, `MissingObject`: the objects are refused.
 /// - `Worn`: the epoch, the greatest number of an object, or the count of entries is 2^60 or more.
 /// - `StoreFault`, `DeviceFault`: a call of the store, or of the device, failed, which ended the mount. The
 ///   store has what it had, perhaps without objects past the first missing number, and perhaps with the next

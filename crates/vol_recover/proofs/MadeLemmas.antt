@@ -2,14 +2,15 @@
 use Rattle.std.proofs.Common.{◌≡◌, ℕ, ◌+◌, ◌-◌, ◌≤◌, Option, Some, None, List, [], take, drop, sym, ◌∙◌, ap, subst, arith}
 use Rattle.std.specs.Prelude.{IfSome}
 use Rattle.std.proofs.lemmas.List.{take-take}
+use Rattle.lsvd_base.specs.declared.entry.Entry.{Entry}
 use Rattle.lsvd_device.specs.Device.{DiskState}
 use Rattle.lsvd_objstore.specs.Objects.{Objects}
-use Rattle.object_stream.specs.Changes.{place_in_payload}
+use Rattle.object_stream.specs.declared.object.StreamObject.{StreamObject}
 use Rattle.object_stream.specs.Landed.{Numbers}
-use Rattle.object_stream.specs.Stream.{end_after, end_at, entries_in_object}
+use Rattle.object_stream.specs.Stream.{end_after, end_at, entries_in_object, place_in_object}
 use Rattle.volume_maps.specs.declared.place.ObjectPlace.{ObjectPlace}
 use Rattle.volume_maps.specs.Maps.{settled_at}
-use Rattle.object_uploads.specs.Stream.{IsPlacedIn}
+use Rattle.object_uploads.specs.Stream.{object_at, IsPlacedIn}
 use Rattle.stopped_volume.specs.Device.{CacheOwner, owner_with}
 use Rattle.plain_disk.specs.declared.log.PlainCommit.{PlainCommit}
 use Rattle.plain_disk.specs.Log.{mounted_log, empty_from}
@@ -29,7 +30,7 @@ use Rattle.refine_mount.specs.Mounted.{mounted_with, mounted_without, sizes_with
 use Rattle.refine_mount.proofs.AsFoundLemmas.{mounts_as_found}
 use Rattle.refine_store.specs.Stored.{HasVolumeUpTo}
 use Rattle.refine_store.proofs.BaseLemmas.{known_is_placed}
-use Rattle.refine_store.proofs.ObjectLemmas.{same_part}
+use Rattle.refine_store.proofs.ObjectLemmas.{get_of_first, same_part}
 use Rattle.vol_core.specs.Shows.{Shows}
 use Rattle.vol_core.specs.Step.{passing}
 use Rattle.vol_core.specs.Volume.{VolumeState}
@@ -71,7 +72,13 @@ module _ (plain : PlainState) (landed : Numbers) (count : ℕ) (valid : IsPlainV
   placed_in_kept : (k : ℕ) (place : ObjectPlace) → place.number ≤ recovered_number landed plain
       → IsPlacedIn (stream_in plain) k place → IsPlacedIn (stream_in kept) k place
   placed_in_kept k place low placed = λ own past.
-      placed own past ∙ ap (λ list. place_in_payload list k) (sym (same_entries place.number low))
+      let i = place.number - (plain.number + 1) in
+      let same : object_at (stream_in kept) place.number ≡ object_at (stream_in plain) place.number =
+      get_of_first (recovered_number landed plain - plain.number) i plain.objects (omega (arith, past, low)) in
+      let Placed : Option StreamObject → List Entry → Type 0 =
+      λ found list. IfSome found (λ object. place.sector ≡ place_in_object object.content list k) in
+      subst (Placed (object_at (stream_in kept) place.number)) (sym (same_entries place.number low))
+      (subst (λ found. Placed found (entries_in_object (stream_in plain) place.number)) (sym same) (placed own past))
 
 -- what follows of each value follows of one that is told
 if_so : {A : Type 0} (P Q : A → Type 0) (told : Option A) → ((value : A) → P value → Q value) → IfSome told P → IfSome told Q

@@ -1,5 +1,6 @@
 -- A volume that was created stands in its store, with no entries.
-use Rattle.std.proofs.Common.{◌≡◌, ℕ, ◌<◌, ◌≤◌, true, false, ◌&&◌, is_some, List, refl, sym, ◌∙◌, ap, subst, inl, inr, arith}
+use Rattle.std.proofs.Common.{◌≡◌, ℕ, zero, suc, ◌<◌, ◌≤◌, true, false, ◌&&◌, is_some, List, refl, sym, ◌∙◌, ap, subst, inl}
+use Rattle.std.proofs.Common.{inr, arith}
 use Rattle.std.specs.Prelude.{◌≢◌, Option, Some, None, IfSome, IsTrue}
 use Rattle.std.proofs.lemmas.Bool.{cases_lt}
 use Rattle.std.proofs.lemmas.List.Elements.{All-nil}
@@ -16,7 +17,8 @@ use Rattle.object_uploads.specs.State.{UploadsState}
 use Rattle.stopped_volume.specs.Objects.{landed_in}
 use Rattle.stopped_volume.specs.Opening.{IsCheckpointOf}
 use Rattle.stopped_volume.specs.Super.{HasVolume}
-use Rattle.plain_disk.specs.State.{PlainState, created_volume, stream_in}
+use Rattle.plain_disk.specs.Found.{found_in}
+use Rattle.plain_disk.specs.State.{PlainState, created_volume, stream_in, payload_of}
 use Rattle.plain_disk.specs.Valid.{IsPlainVolume, MayLand}
 use Rattle.plain_disk.proofs.EventLemmas.{created_is}
 use Rattle.plain_disk.proofs.OpeningLemmas.{created_opens}
@@ -220,6 +222,11 @@ module _ (uuid : List ℕ) (geometry : Geometry) (old : Objects) (new_to : IsNew
         (mounted_stands uuid 0 created landed created.cache.log.last geometry.log uploads new valid has_up_to
         (λ number past. lacks_later number past)).1
 
+    same_payload : (other : ℕ) → other ≤ 1 → payload_of (found_in landed created) other ≡ payload_of created other
+    same_payload zero low = refl
+    same_payload (suc zero) low = refl
+    same_payload (suc (suc other)) low = absurd (omega (arith, low))
+
     -- a mount finds it as it is, but for how it opens
     has_objects : HasObjects uuid created 1 new
     has_objects =
@@ -232,8 +239,10 @@ module _ (uuid : List ℕ) (geometry : Geometry) (old : Objects) (new_to : IsNew
           window = refl;
           pins = refl;
           none_out = refl;
+          no_plan = refl;
           gone = refl;
           present = there.present;
+          payloads = λ other payload low has. there.payloads other payload low has ∙ same_payload other low;
           stored = record {
             own = refl;
             valid = valid.stream;
@@ -248,7 +257,7 @@ module _ (uuid : List ℕ) (geometry : Geometry) (old : Objects) (new_to : IsNew
               stored = tt;
               past = stream.past;
             };
-            hold_data = data_of.hold_data;
+            no_checkpoint = data_of.no_checkpoint;
             inside = data_of.inside;
           };
         }

@@ -19,8 +19,8 @@ use vol_mount::{MountError, refuse_log};
 /// tested in this order:
 ///
 /// - `NoVolume`, `BadSuper`, `HasAncestors`: the volume as a whole is refused.
-/// - `NoCheckpoint`, `BadObject`, `NotData`, `MissingObject`: the log does not fit the volume, and its
-///   objects are refused.
+/// - `NoCheckpoint`, `BadObject`, `MissingObject`: the log does not fit the volume, and its objects are
+///   refused.
 /// - `NoSlot`: the log does not fit the volume.
 /// - `StoreFault`: a call of the store failed.
 /// - `OutOfMemory`: memory ran out.

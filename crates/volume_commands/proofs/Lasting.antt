@@ -82,17 +82,18 @@ pub record KeepingLaws {R : Type 0} (state : R → ReceiptState) : Type 0 where
 
 -- ---- clients and a drain
 
-made_keeps : {R : Type 0} (state : R → ReceiptState) → ActsKeepStore state → (added : List Entry) (old new : Moment)
+made_keeps : {R : Type 0} (state : R → ReceiptState) → ActsKeepStore state → TellsBytes state → (added : List Entry)
+    (old new : Moment)
     → IsMadeOfActs state added old new → KeepsStore added old new
-made_keeps state acts_keep added old new made =
-    subst (λ es. KeepsStore es old new) made.entered (acts_keep made.acts old new made.done)
+made_keeps state acts_keep tells added old new made =
+    subst (λ es. KeepsStore es old new) made.entered (acts_keep tells made.acts old new made.done)
 
 -- a volume that stood with its store was served and drained, and was let go
-module _ {R : Type 0} (state : R → ReceiptState) (epoch : ℕ) (made : PlainState) (first last closing : Moment)
-    (objects : Objects) (told : first.store.objects ≡ Some objects)
+module _ {R : Type 0} (state : R → ReceiptState) (tells : TellsBytes state) (epoch : ℕ) (made : PlainState)
+    (first last closing : Moment) (objects : Objects) (told : first.store.objects ≡ Some objects)
     (own : HasOwnCommits (owner_with first.volume.volume.objects.uploads.uuid epoch) first.volume.volume)
     (with_store : IsMadeWithStore first.volume.volume.objects.uploads.uuid epoch made first.volume.volume objects)
-    (added : List Entry) (grows : Grows added first last) (entries : ℕ) (drains : Drains state entries last closing)
+    (added : List Entry) (grows : Grows state added first last) (entries : ℕ) (drains : Drains state entries last closing)
     (let_go : IsLetGo closing.volume) (standing : StandingLaws) (keeping : KeepingLaws state) where
   abbrev uuid : List ℕ
   uuid = first.volume.volume.objects.uploads.uuid
@@ -110,9 +111,9 @@ module _ {R : Type 0} (state : R → ReceiptState) (epoch : ℕ) (made : PlainSt
       closing.volume.volume.log.commits.disk)
       × (entries ≡ history_length whole.after)
   serves_whole =
-      let (middle, middle_shows, middle_goes, middle_stands) = grows.stands shown with_store.shows in
+      let (middle, middle_shows, middle_goes, middle_stands) = grows.stands tells shown with_store.shows in
       let (after, shows, goes, stands_after) =
-      made_keeps state keeping.acts [] last closing drains.calls.acts middle middle_shows in
+      made_keeps state keeping.acts tells [] last closing drains.calls.acts middle middle_shows in
       let goes_on : GoesOn added shown after =
       subst (λ es. GoesOn es shown after) (append-nil added) (goes_on_more added [] shown middle after middle_goes goes) in
       let mid = told_after (KeepsOtherNames uuid) first.store.objects last.store.objects objects told grows.store in
@@ -183,12 +184,13 @@ module _ {D R L K : Type 0} (disk_state : D → DiskState) (receipt_state : R �
       (serves : ServesOn disk_state receipt_state listener_state coming link_state request links disk disk_left store store_left
       old new) where
     -- what clients and a drain make of the volume that was mounted
-    served_is_whole : (epoch : ℕ) (made : PlainState) (objects : Objects) → serves.mid.objects ≡ Some objects
+    served_is_whole : TellsBytes receipt_state → (epoch : ℕ) (made : PlainState) (objects : Objects)
+        → serves.mid.objects ≡ Some objects
         → serves.mounted.volume.volume.objects.uploads.uuid ≡ request.volume
         → HasOwnCommits (owner_with request.volume epoch) serves.mounted.volume.volume
         → IsMadeWithStore request.volume epoch made serves.mounted.volume.volume objects
         → ServesWhole serves epoch made
-    served_is_whole epoch made objects told uuid_is own with_store =
+    served_is_whole tells epoch made objects told uuid_is own with_store =
         let by = serves.serves in
         let volume = serves.mounted.volume.volume in
         let first : Moment = moment_of serves.mounted.volume serves.mid in
@@ -199,8 +201,8 @@ module _ {D R L K : Type 0} (disk_state : D → DiskState) (receipt_state : R �
         let its_own : HasOwnCommits (owner_with volume.objects.uploads.uuid epoch) volume =
         subst (λ (u : List ℕ). HasOwnCommits (owner_with u epoch) volume) (sym uuid_is) own in
         let whole =
-        serves_whole receipt_state epoch made first by.last (moment_of serves.closing store_left) objects told its_own its_store
-        added grown.0.1 by.entries by.drains serves.let_go standing keeping in
+        serves_whole receipt_state tells epoch made first by.last (moment_of serves.closing store_left) objects told its_own
+        its_store added grown.0.1 by.entries by.drains serves.let_go standing keeping in
         let leaves = whole.0 in
         let disk_is : serves.closing.volume.log.commits.disk ≡ disk_left = sym serves.disk_is in
         record {
@@ -234,7 +236,7 @@ module _ {D R L K : Type 0} (disk_state : D → DiskState) (receipt_state : R �
       (mount.mounts tells plain.geometry epoch log_is has) in
       let (left, left_told, removed) =
       told_after (RemovesAllPast uuid serves.mounted.number) store.objects serves.mid.objects objects told mount.removed in
-      served_is_whole request links disk disk_left store store_left old new serves epoch _ left left_told volume.uuid_is
+      served_is_whole request links disk disk_left store store_left old new serves tells epoch _ left left_told volume.uuid_is
       volume.own
       (standing.with_cache (owner_with uuid epoch) plain found landed objects left disk serves.mounted is_uuid may mounts volume
       removed)
@@ -266,6 +268,6 @@ module _ {D R L K : Type 0} (disk_state : D → DiskState) (receipt_state : R �
       let (left, left_told, begins) =
       told_after (BeginsEpoch uuid serves.mounted.number (epoch + 1)) store.objects serves.mid.objects objects told
       (mount.begun tells sizes epoch refl has) in
-      served_is_whole request links disk disk_left store store_left old new serves (epoch + 1) _ left left_told volume.uuid_is
-      volume.own
+      served_is_whole request links disk disk_left store store_left old new serves tells (epoch + 1) _ left left_told
+      volume.uuid_is volume.own
       (standing.without uuid log epoch plain landed objects left serves.mounted is_uuid may mounts volume begins)

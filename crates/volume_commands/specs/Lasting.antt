@@ -69,7 +69,7 @@ pub record ServesWhole {D R L K : Type 0} {disk_state : D → DiskState} {receip
     (serves : ServesOn disk_state receipt_state listener_state coming link_state request links disk disk_left store store_left old
     new) (epoch : ℕ) (made : PlainState) : Type 0 where
   pub added : List Entry
-  pub grows : Grows added (moment_of serves.mounted.volume serves.mid) serves.serves.last
+  pub grows : Grows receipt_state added (moment_of serves.mounted.volume serves.mid) serves.serves.last
   pub leaves : LeavesWhole (owner_with request.volume epoch) added made store_left.objects disk_left
   pub count : serves.serves.entries ≡ history_length leaves.after
 

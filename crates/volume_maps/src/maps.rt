@@ -1,11 +1,11 @@
 ghost use Rattle.std.specs.Prelude.{◌≡◌, ◌+◌, ◌<◌, ◌≤◌, ◌^◌, ℕ, ◌++◌, ◌∷◌, [], length, IfOk, OnOk, OnErr};
-ghost use Rattle.std.specs.Prelude.{IsOk, IfSome};
+ghost use Rattle.std.specs.Prelude.{IsOk, IfSome, IsTrue, ◌↔◌};
 ghost use Rattle.std.specs.List.{sum_by};
 ghost use Rattle.std.specs.Option.{option_or};
 ghost use Rattle.lsvd_base.specs.Laws.{first_sector, sector_count};
 ghost use Rattle.extent_map.specs.Extents.{place_at, place_in_range, place_after_set, IsShortest, AllFit};
 ghost use Rattle.object_table.specs.Table.{row_of, with_changed, without, pinned, unpinned, new_row, added};
-ghost use Rattle.object_table.specs.Table.{acknowledged, IsNewest, IsLowestRemovable};
+ghost use Rattle.object_table.specs.Table.{copied, acknowledged, candidates, IsNewest, IsLowestRemovable};
 ghost use Rattle.reverse_map.specs.Ranges.{IsAbove};
 ghost use Rattle.volume_maps.specs.Places.{object_on, log_on, volume_on, log_number, volume_number};
 ghost use Rattle.volume_maps.specs.Places.{place_left_by, row_left_by};
@@ -292,21 +292,31 @@ impl VolumeMaps {
         self.objects.unpin(number);
     }
 
+    /// A plan of a copy takes sectors from an object, so that it is not removed, or takes none any longer.
+    /// One that is absent changes nothing. It takes no memory.
+    pub fn set_copied(&mut self, number: u64, is_copied: bool)
+        ensures copied { self.new ≡ record self.old {
+          objects = with_changed (copied is_copied) number self.old.objects;
+        } }
+        ensures counted { IsCounted self.new.settled.rows self.new.objects }
+    {
+        self.objects.set_copied(number, is_copied);
+    }
+
+    /// Whether there are objects that a collection may take sectors from. It takes no memory.
+    pub fn has_victims(&self) -> bool
+        ensures { IsTrue result ↔ (candidates self.now.objects.rows ≡ [] → ⊥) }
+    {
+        !self.objects.candidates().is_empty()
+    }
+
     /// The rows of the copy that a collection makes: the live sectors of the victims, so many at most, victim
-    /// by victim, and by their place in the volume within one. No rows are where there is no victim. The
-    /// volume has so many sectors, all places are in it and inside the greatest payload, and 131,071 sectors
-    /// are planned at most (conditions). The cost is by candidates, and by the ranges of the victims that are
-    /// copied. The one error is out of memory.
-    pub fn plan_copy(
-        &self,
-        alloc: Global,
-        sectors: u64,
-        most: u64,
-    ) -> Result<Vec<CopyRow>, AllocError>
-        requires volume { sectors ≤ 2147483648 }
-        requires most { most ≤ 131071 }
-        requires places { PlacesAreIn sectors self.now }
-        ensures { IfOk result (λ rows. PlansCopy sectors most self.now rows.items) }
+    /// by victim, and by their place in the volume within one, where all places are in the volume and inside
+    /// the greatest payload. No rows are where there is no victim. The cost is by candidates, and by the
+    /// ranges of the victims that are copied. The one error is out of memory.
+    pub fn plan_copy(&self, alloc: Global, most: u64) -> Result<Vec<CopyRow>, AllocError>
+        ensures { (volume : ℕ) → PlacesAreIn volume self.now → IfOk result
+            (λ rows. PlansCopy volume most self.now rows.items) }
     {
         let victims = victims(alloc, &self.objects)?;
         let planned = plan_victims(alloc, &self.settled, &self.reverse, &victims, most)?;
@@ -314,7 +324,8 @@ impl VolumeMaps {
     }
 
     /// The lowest number of an object that may be removed: the newest acknowledged checkpoint has a greater
-    /// number and does not map it, and it is not pinned. None is where there is no such object.
+    /// number and does not map it, it is not pinned, and no plan of a copy takes sectors from it. None is
+    /// where there is no such object.
     pub fn removable(&self) -> Option<u64>
         ensures { IsLowestRemovable self.now.objects result }
     {

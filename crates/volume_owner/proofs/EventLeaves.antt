@@ -8,21 +8,26 @@ use Rattle.std.proofs.Math.Bool.{or-true}
 use Rattle.std.proofs.lemmas.Bool.{eq-eqb}
 use Rattle.lsvd_device.specs.Calls.{Fuse}
 use Rattle.object_format.specs.declared.expected.Expected.{Expected}
+use Rattle.object_stream.specs.declared.object.CopiedSector.{CopiedSector}
+use Rattle.object_uploads.specs.declared.rows.SealedRows.{SealedRows}
+use Rattle.object_uploads.specs.declared.rows.SealedRows.TheVariants as sealed_rows
 use Rattle.plain_disk.specs.declared.event.PlainEvent.{PlainEvent}
 use Rattle.plain_disk.specs.declared.event.PlainEvent.TheVariants.{Write, Zero, Flush, Look, Release, Seal, TakeJob, JobDone}
 use Rattle.plain_disk.specs.declared.event.PlainEvent.TheVariants.{JobFailed, SealCheckpoint, TakeRemove}
-use Rattle.plain_disk.specs.declared.event.PlainEvent.TheVariants.{RemoveDone, RemoveFailed, Status}
+use Rattle.plain_disk.specs.declared.event.PlainEvent.TheVariants.{RemoveDone, RemoveFailed, PlanCopy, SealCopy, DropPlan}
+use Rattle.plain_disk.specs.declared.event.PlainEvent.TheVariants.{Status}
 use Rattle.plain_disk.specs.State.{PlainState, OpensBlank}
 use Rattle.plain_disk.specs.Removals.{has, to_remove, with_removal, is_out}
 use Rattle.plain_disk.specs.Reads.{are_pinned}
 use Rattle.plain_disk.specs.Objects.{has_unsealed, is_busy}
+use Rattle.plain_disk.specs.Collection.{planned_copy, with_plan, with_copy, after_sealed_copy}
 use Rattle.plain_disk.specs.Step.{plain_after}
 use Rattle.plain_disk.specs.Found.{SealsCheckpoints}
 use Rattle.plain_disk.specs.Valid.{IsPlainVolume}
 use Rattle.plain_disk.proofs.OpeningLemmas.{events_keep_opening}
 use Rattle.plain_disk.proofs.MarkedLemmas.{events_seal}
 use Rattle.lsvd_base.specs.Limits.{may_transfer}
-use Rattle.refine_store.specs.Puts.{IsObjectOf}
+use Rattle.refine_store.specs.Puts.{HasSourceSectors, IsObjectOf}
 use Rattle.refine_store.proofs.KeepLemmas.{events_keep_object}
 use Rattle.vol_core.specs.Step.{passing}
 use Rattle.vol_core.proofs.StepLemmas.{passing_keeps}
@@ -62,6 +67,17 @@ taking_out plain None (Some n) is given = has_last plain.given_out n
 taking_out plain None None is given = given
 taking_out plain (Some other) lowest is given = given
 
+planning_out : (plain : PlainState) (out : Option (List CopiedSector)) (sectors : List CopiedSector) → IsGivenOut plain
+    → IsGivenOut (with_plan out sectors plain)
+planning_out plain (Some plan) sectors given = given
+planning_out plain None [] given = given
+planning_out plain None (first ∷ more) given = given
+
+copy_out : (plain : PlainState) (is_sealed : Bool) (out : Option (List CopiedSector)) → IsGivenOut plain
+    → IsGivenOut (after_sealed_copy is_sealed out plain)
+copy_out plain is_sealed None given = given
+copy_out plain is_sealed (Some plan) given = either_out is_sealed (with_copy plan plain) plain given given
+
 event_out : (plain : PlainState) (event : PlainEvent) → IsGivenOut plain → IsGivenOut (plain_after event plain)
 event_out plain (Write lba body) given = given
 event_out plain (Zero lba sectors) given = given
@@ -76,16 +92,31 @@ event_out plain SealCheckpoint given = either_out (is_busy plain) plain _ given 
 event_out plain TakeRemove given = taking_out plain plain.removal (to_remove plain) refl given
 event_out plain (RemoveDone number) given = either_out (is_out number plain.removal) _ plain tt given
 event_out plain (RemoveFailed number) given = either_out (is_out number plain.removal) _ plain tt given
+event_out plain PlanCopy given = planning_out plain plain.plan (planned_copy plain) given
+event_out plain (SealCopy is_planned) given = copy_out plain (is_planned && not (is_busy plain)) plain.plan given
+event_out plain DropPlan given = given
 event_out plain Status given = given
 
 -- ---- the whole
 
 -- what calls the device passes does not matter to what a plain volume opens with, nor to its objects
 blank_passing : (left : Fuse) (plain : PlainState) → OpensBlank plain → OpensBlank (passing left plain)
-blank_passing left plain is = record { number = is.number; end = is.end; opening = is.opening; owned = is.owned }
+blank_passing left plain is = record {
+  number = is.number;
+  end = is.end;
+  opening = is.opening;
+  owned = is.owned;
+  payloads = is.payloads;
+}
 
 seals_passing : (left : Fuse) (plain : PlainState) → SealsCheckpoints plain → SealsCheckpoints (passing left plain)
 seals_passing left plain is = record { sealed = is.sealed; marked = is.marked; removed = is.removed; out = is.out }
+
+copied_passing : (left : Fuse) (plain : PlainState) (n : ℕ) (bytes : List ℕ) (rows : SealedRows)
+    → HasSourceSectors plain n bytes rows → HasSourceSectors (passing left plain) n bytes rows
+copied_passing left plain n bytes (sealed_rows.Data list) copied = tt
+copied_passing left plain n bytes (sealed_rows.Copy list) copied = copied
+copied_passing left plain n bytes sealed_rows.Checkpoint copied = tt
 
 object_passing : (left : Fuse) (plain : PlainState) (volume : Expected) (n : ℕ) (bytes : List ℕ)
     → IsObjectOf volume plain n bytes → IsObjectOf volume (passing left plain) n bytes
@@ -101,6 +132,7 @@ object_passing left plain volume n bytes (inr is) = inr (record {
   there = is.there;
   rows = is.rows;
   holds = is.holds;
+  copied = copied_passing left plain n bytes is.rows is.copied;
 })
 
 pub event_leaves : (left now : Fuse) (plain : PlainState) (event : PlainEvent) → IsPlainVolume plain

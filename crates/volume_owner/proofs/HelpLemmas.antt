@@ -111,6 +111,9 @@ silent_reply plain (events.RemoveDone number) silent is =
     either_reply (is_out number plain.removal) replies.Removed replies.Nothing (λ e. cc) (λ e. cc) is
 silent_reply plain (events.RemoveFailed number) silent is =
     either_reply (is_out number plain.removal) replies.GivenBack replies.Nothing (λ e. cc) (λ e. cc) is
+silent_reply plain events.PlanCopy silent is = cc
+silent_reply plain (events.SealCopy is_planned) silent is = cc
+silent_reply plain events.DropPlan silent is = cc
 silent_reply plain events.Status silent is = cc
 
 -- no call of the device fails in it

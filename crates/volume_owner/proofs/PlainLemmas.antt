@@ -4,18 +4,21 @@ use Rattle.std.proofs.Common.{sym, ◌∙◌, ap, subst, Option, Some, None}
 use Rattle.lsvd_base.specs.declared.entry.Entry.{Entry}
 use Rattle.lsvd_base.specs.Limits.{may_transfer}
 use Rattle.object_stream.specs.declared.object.Content.TheVariants.{Data, Checkpoint}
+use Rattle.object_stream.specs.declared.object.CopiedSector.{CopiedSector}
 use Rattle.object_stream.specs.declared.object.StreamObject.{StreamObject}
 use Rattle.object_stream.specs.Stream.{end_at, last_number}
 use Rattle.upload_window.specs.Window.{entered}
 use Rattle.plain_disk.specs.declared.event.PlainEvent.{PlainEvent}
 use Rattle.plain_disk.specs.declared.event.PlainEvent.TheVariants.{Write, Zero, Flush, Look, Release, Seal, TakeJob, JobDone}
 use Rattle.plain_disk.specs.declared.event.PlainEvent.TheVariants.{JobFailed, SealCheckpoint, TakeRemove}
-use Rattle.plain_disk.specs.declared.event.PlainEvent.TheVariants.{RemoveDone, RemoveFailed, Status}
+use Rattle.plain_disk.specs.declared.event.PlainEvent.TheVariants.{RemoveDone, RemoveFailed, PlanCopy, SealCopy, DropPlan}
+use Rattle.plain_disk.specs.declared.event.PlainEvent.TheVariants.{Status}
 use Rattle.plain_disk.specs.Cache.{passes_entry, after_reads}
 use Rattle.plain_disk.specs.State.{PlainState, stream_in, frontier_of, folded_to}
 use Rattle.plain_disk.specs.Removals.{to_remove, with_removal, is_out}
 use Rattle.plain_disk.specs.Entries.{cache_for, comes_to_log, after_entering}
 use Rattle.plain_disk.specs.Objects.{has_unsealed, is_busy, end_of_next}
+use Rattle.plain_disk.specs.Collection.{planned_copy, with_plan, with_copy, after_sealed_copy}
 use Rattle.plain_disk.specs.Reads.{look_calls, passes_look, objects_read, are_pinned, without_pins}
 use Rattle.plain_disk.specs.Step.{plain_after}
 use Rattle.plain_disk.specs.Valid.{IsPlainVolume}
@@ -46,6 +49,7 @@ pub record KeepsEntries (plain after : PlainState) : Type 0 where
     objects = after.objects;
     window = after.window;
     checkpoint = after.checkpoint;
+    plan = after.plan;
     pins = after.pins;
     removed = after.removed;
     given_out = after.given_out;
@@ -64,11 +68,12 @@ either_keeps plain false x y other keeps = keeps
 none_more : {T : Type 0} (list : List T) → (more : List T) × (list ≡ list ++ more)
 none_more list = ([], sym (append-nil list))
 
--- the same objects, window, checkpoint, pins, removal and cache as this one has, and nothing else
+-- the same window, checkpoint, plan, pins, removal and cache as this one has, and nothing else
 abbrev with_same_lists : PlainState → PlainState → PlainState
 with_same_lists plain after = record plain {
   window = after.window;
   checkpoint = after.checkpoint;
+  plan = after.plan;
   pins = after.pins;
   removal = after.removal;
   cache = after.cache;
@@ -116,6 +121,28 @@ removed_keeps plain number = record {
   removed = (number ∷ [], refl);
 }
 
+-- a plan of a copy is made
+planning_keeps : (plain : PlainState) (out : Option (List CopiedSector)) (sectors : List CopiedSector)
+    → KeepsEntries plain (with_plan out sectors plain)
+planning_keeps plain (Some plan) sectors = same_lists plain plain
+planning_keeps plain None [] = same_lists plain plain
+planning_keeps plain None (first ∷ more) = same_lists plain (record plain { plan = Some (first ∷ more) })
+
+-- what was copied is sealed, or is not
+copy_keeps : (plain : PlainState) (plan : List CopiedSector) → KeepsEntries plain (with_copy plan plain)
+copy_keeps plain plan = record {
+  opens = refl;
+  objects = (_, refl);
+  given_out = none_more plain.given_out;
+  removed = none_more plain.removed;
+}
+
+sealed_copy_keeps : (plain : PlainState) (is_sealed : Bool) (out : Option (List CopiedSector))
+    → KeepsEntries plain (after_sealed_copy is_sealed out plain)
+sealed_copy_keeps plain is_sealed None = same_lists plain plain
+sealed_copy_keeps plain is_sealed (Some plan) =
+    either_keeps plain is_sealed (with_copy plan plain) plain (copy_keeps plain plan) (same_lists plain plain)
+
 -- an event that enters nothing
 abbrev pub is_quiet : PlainEvent → Bool
 is_quiet (Write lba body) = false
@@ -160,6 +187,9 @@ quiet_keeps plain (RemoveDone number) quiet =
 quiet_keeps plain (RemoveFailed number) quiet =
     let after : PlainState = record plain { removal = None } in
     either_keeps plain (is_out number plain.removal) after plain (same_lists plain after) (same_lists plain plain)
+quiet_keeps plain PlanCopy quiet = planning_keeps plain plain.plan (planned_copy plain)
+quiet_keeps plain (SealCopy is_planned) quiet = sealed_copy_keeps plain (is_planned && not (is_busy plain)) plain.plan
+quiet_keeps plain DropPlan quiet = same_lists plain (record plain { plan = None })
 quiet_keeps plain Status quiet = same_lists plain plain
 
 pub quiet_goes_on : (plain : PlainState) (event : PlainEvent) → IsPlainVolume plain → is_quiet event ≡ true
@@ -175,6 +205,7 @@ quiet_goes_on plain event valid quiet =
             objects = after.objects;
             window = after.window;
             checkpoint = after.checkpoint;
+            plan = after.plan;
             pins = after.pins;
             removed = after.removed;
             given_out = after.given_out;
@@ -216,6 +247,7 @@ entering_goes_on plain entry event is valid =
             objects = after.objects;
             window = after.window;
             checkpoint = after.checkpoint;
+            plan = after.plan;
             pins = after.pins;
             removed = after.removed;
             given_out = after.given_out;

@@ -13,6 +13,7 @@ use Rattle.refine_log.specs.Fuses.{fuse_in}
 use Rattle.object_recovery.specs.Checkpoints.{expected_of}
 use Rattle.object_uploads.specs.Order.{IsUploads}
 use Rattle.object_uploads.specs.State.{JobState}
+use Rattle.object_uploads.specs.Image.{TellAlike}
 use Rattle.object_uploads.specs.Changes.{IsOut, IsJobOf}
 use Rattle.object_uploads.proofs.UploadsKept.{frontier_below}
 use Rattle.plain_disk.specs.declared.event.PlainEvent.{PlainEvent}
@@ -24,6 +25,7 @@ use Rattle.plain_disk.specs.State.{PlainState}
 use Rattle.plain_disk.specs.Step.{plain_reply, plain_after}
 use Rattle.refine_store.specs.Puts.{IsObjectOf}
 use Rattle.refine_store.specs.Stored.{StoreStands}
+use Rattle.stopped_volume.specs.Store.{TellsBytes}
 use Rattle.refine_store.proofs.JobLemmas.{job_is_object}
 use Rattle.upload_window.specs.Window.{WindowState, below_open, lowest_ready}
 use Rattle.vol_core.specs.declared.event.Event.{Event}
@@ -76,7 +78,7 @@ none_told entry reply other =
     ]
 
 module _ {R : Type 0} (state : R → ReceiptState) (reply : Reply R) (old new : VolumeState) (store : StoreState)
-    (plain : PlainState) (shows : Shows old plain) where
+    (plain : PlainState) (shows : Shows old plain) (alike : TellAlike true old.objects.uploads.queue) where
   abbrev uuid : List ℕ
   uuid = old.objects.uploads.uuid
 
@@ -194,7 +196,7 @@ module _ {R : Type 0} (state : R → ReceiptState) (reply : Reply R) (old new : 
       let last : old.objects.uploads.window.last ≡ plain.window.last =
       ap (λ (w : WindowState). w.last) shows.objects.window in
       let object = job_is_object shows.data_at old.objects plain n job order shows.valid shows.objects
-      (omega (arith, within.0, below)) (omega (arith, within.1, last)) is_job in
+      (omega (arith, within.0, below)) (omega (arith, within.1, last)) alike is_job in
       taken_step uuid old objects plain _ n job.bytes refl refl refl open_ is_job.bytes
       (subst (λ g. IsObjectOf (expected_of uuid g) plain n job.bytes) shows.objects.geometry object)
 
@@ -403,12 +405,12 @@ leaves_by uuid epoch added plain after volume objects goes leaves stands =
       objects = leaves.objects was.blank;
     }
 
-step_keeps : {R : Type 0} (state : R → ReceiptState) (event : Event R) (reply : Reply R) (old new : Moment)
+step_keeps : {R : Type 0} (state : R → ReceiptState) → TellsBytes state → (event : Event R) (reply : Reply R) (old new : Moment)
     → IsStepAct state event reply old new → KeepsStore (entered_by_event event reply) old new
-step_keeps state event reply old new is plain shows =
+step_keeps state tells event reply old new is plain shows =
     let before : VolumeState = old.volume.volume in
     let now : VolumeState = new.volume.volume in
-    let kept = step_by state reply before now old.store plain shows event is.object is.step.order.uploads
+    let kept = step_by state reply before now old.store plain shows (is.step.told tells) event is.object is.step.order.uploads
     (is.step.step.step plain shows) in
     let uuid : List ℕ = before.objects.uploads.uuid in (
       kept.after,
@@ -424,20 +426,20 @@ step_keeps state event reply old new is plain shows =
           (kept.step objects there))) has,
     )
 
-act_keeps : {R : Type 0} (state : R → ReceiptState) (act : Act R) (old new : Moment) → IsAct state act old new
-    → KeepsStore (entered_by_act act) old new
-act_keeps state (Made event reply) old new is = step_keeps state event reply old new is
-act_keeps state (Puts job failed) old new is =
+act_keeps : {R : Type 0} (state : R → ReceiptState) → TellsBytes state → (act : Act R) (old new : Moment)
+    → IsAct state act old new → KeepsStore (entered_by_act act) old new
+act_keeps state tells (Made event reply) old new is = step_keeps state tells event reply old new is
+act_keeps state tells (Puts job failed) old new is =
     volume_stays old new is.volume (λ plain shows epoch has.
     some_then (PutLeaves failed job.name job.bytes) (StandAt epoch old plain)
     (put_leaves_at failed epoch old.volume.volume plain job shows is.out is.named) old.store.objects new.store.objects
     is.objects has)
-act_keeps state (Removes number failed) old new is =
+act_keeps state tells (Removes number failed) old new is =
     volume_stays old new is.volume (λ plain shows epoch has.
     some_then (RemovalLeaves failed (numbered_name old.volume.volume.objects.uploads.uuid number)) (StandAt epoch old plain)
     (removal_leaves_at failed epoch old.volume.volume plain number shows is.out) old.store.objects new.store.objects is.objects
     has)
-act_keeps state (Gets failed) old new is =
+act_keeps state tells (Gets failed) old new is =
     volume_stays old new is.volume (λ plain shows epoch has.
     subst (λ o. IfSome o (StandAt epoch old plain)) (sym (ap (λ (s : StoreState). s.objects) is.store)) has)
 
@@ -453,19 +455,19 @@ keeps_then xs ys old mid new first second plain shows =
     let two = second one.0 one.1 in
     (two.0, two.1, goes_on_more xs ys plain one.0 two.0 one.2 two.2, λ epoch has. two.3 epoch (one.3 epoch has))
 
-pub acts_keep_store : {R : Type 0} (state : R → ReceiptState) (acts : List (Act R)) (old new : Moment)
+pub acts_keep_store : {R : Type 0} (state : R → ReceiptState) → TellsBytes state → (acts : List (Act R)) (old new : Moment)
     → AreActs state acts old new
     → KeepsStore (flat_map entered_by_act acts) old new
-acts_keep_store state [] old new same = subst (KeepsStore [] old) (sym same) (keeps_nothing old)
-acts_keep_store state (act ∷ rest) old new are =
-    keeps_then (entered_by_act act) (flat_map entered_by_act rest) old are.0 new (act_keeps state act old are.0 are.1)
-    (acts_keep_store state rest are.0 new are.2)
+acts_keep_store state tells [] old new same = subst (KeepsStore [] old) (sym same) (keeps_nothing old)
+acts_keep_store state tells (act ∷ rest) old new are =
+    keeps_then (entered_by_act act) (flat_map entered_by_act rest) old are.0 new (act_keeps state tells act old are.0 are.1)
+    (acts_keep_store state tells rest are.0 new are.2)
 
 -- what was made of acts keeps it
-pub made_keeps : {R : Type 0} (state : R → ReceiptState) (added : List Entry) (old new : Moment)
+pub made_keeps : {R : Type 0} (state : R → ReceiptState) → TellsBytes state → (added : List Entry) (old new : Moment)
     → IsMadeOfActs state added old new → KeepsStore added old new
-made_keeps state added old new made =
-    subst (λ es. KeepsStore es old new) made.entered (acts_keep_store state made.acts old new made.done)
+made_keeps state tells added old new made =
+    subst (λ es. KeepsStore es old new) made.entered (acts_keep_store state tells made.acts old new made.done)
 
 -- ---- a stop
 

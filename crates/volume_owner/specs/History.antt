@@ -13,6 +13,7 @@ pub record GoesOn (added : List Entry) (plain after : PlainState) : Type 0 where
     objects = after.objects;
     window = after.window;
     checkpoint = after.checkpoint;
+    plan = after.plan;
     pins = after.pins;
     removed = after.removed;
     given_out = after.given_out;

@@ -5,6 +5,7 @@ use Rattle.lsvd_objstore.specs.Objects.{Objects}
 use Rattle.lsvd_objstore.specs.Store.{ReceiptState}
 use Rattle.plain_disk.specs.State.{PlainState}
 use Rattle.refine_store.specs.Stored.{StoreStands}
+use Rattle.stopped_volume.specs.Store.{TellsBytes}
 use Rattle.vol_core.specs.Shows.{Shows}
 use Rattle.vol_core.specs.View.{volume_uploads, volume_uuid}
 use Rattle.volume_owner.specs.Acts.{Moment, Act, entered_by_act, IsAct, AreActs, MayBeLeftInAct}
@@ -29,10 +30,11 @@ KeepsStore added old new =
 
 -- ---- laws
 
--- Acts keep the store standing, from any moment on up to any later one.
+-- Acts keep the store standing, where all receipts tell their bytes, from any moment on up to any later one.
 abbrev pub ActsKeepStore : {R : Type 0} → (R → ReceiptState) → Type 0
 ActsKeepStore {R} state =
-    (acts : List (Act R)) (old new : Moment) → AreActs state acts old new → KeepsStore (flat_map entered_by_act acts) old new
+    TellsBytes state → (acts : List (Act R)) (old new : Moment) → AreActs state acts old new
+    → KeepsStore (flat_map entered_by_act acts) old new
 
 -- Whatever a stop inside an act leaves of the objects stands for the plain volume that was shown before the act.
 abbrev pub StopsKeepStore : {R : Type 0} → (R → ReceiptState) → Type 0

@@ -21,7 +21,8 @@ pub fn a_new_volume_is_idle()
 {}
 
 /// A law: where the store stands for what the volume shows, it stands after each act of a call, and so at
-/// each moment between them; and whatever a stop inside an act leaves of it stands for what was shown before.
+/// each moment between them, if all receipts tell their bytes; and whatever a stop inside an act leaves of it
+/// stands for what was shown before.
 pub fn acts_keep_the_store<R: Receipt>()
     ensures acts { ActsKeepStore R.state }
     ensures stops { StopsKeepStore R.state }

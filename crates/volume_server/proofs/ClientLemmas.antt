@@ -71,40 +71,40 @@ gave_one old new is = (
 -- ---- their history
 
 -- what a client adds
-record Adds (old new : Moment) : Type 0 where
+record Adds {R : Type 0} (state : R → ReceiptState) (old new : Moment) : Type 0 where
   added : List Entry
-  grows : Grows added old new
+  grows : Grows state added old new
   leaves : LeavesRoom old new
 
-unchanged : (old new : Moment) → new ≡ old → Adds old new
-unchanged old new same = record {
+unchanged : {R : Type 0} (state : R → ReceiptState) (old new : Moment) → new ≡ old → Adds state old new
+unchanged state old new same = record {
   added = [];
-  grows = subst (Grows [] old) (sym same) (grows_nothing old);
+  grows = subst (Grows state [] old) (sym same) (grows_nothing state old);
   leaves = stays_leaves old new same;
 }
 
 client_adds : {R K : Type 0} (state : R → ReceiptState) (told : K → ConnectionState) → SessionGrows state
     → (end : SessionEnd) (last : ConnectionState) (coming left : Option (List K)) (old new : Moment)
-    → IsClient (owner_relations state) told end last coming left old new → Adds old new
+    → IsClient (owner_relations state) told end last coming left old new → Adds state old new
 client_adds state told sessions end last coming left old new is = by_session is.session
   where
     by_session : IsSession (owner_relations state) (export_of (owner_relations state) old) end (told is.link).bytes last.bytes old
-        new → Adds old new
-    by_session (inl ended) = unchanged old new ended.3
+        new → Adds state old new
+    by_session (inl ended) = unchanged state old new ended.3
     by_session (inr entered) =
         let grown = sessions end entered.0 last.bytes old new entered.2 in
         record { added = entered_in entered.2.exchanges ++ grown.0; grows = grown.2; leaves = grown.3 }
 
 clients_add : {R K : Type 0} (state : R → ReceiptState) (told : K → ConnectionState) → SessionGrows state
     → (count : ℕ) (coming left : Option (List K)) (old new : Moment)
-    → AreClients (owner_relations state) told count coming left old new → Adds old new
-clients_add state told sessions zero coming left old new same = unchanged old new same.1
+    → AreClients (owner_relations state) told count coming left old new → Adds state old new
+clients_add state told sessions zero coming left old new same = unchanged state old new same.1
 clients_add state told sessions (suc count) coming left old new (between, mid, clients, end, last, is) =
     let before = clients_add state told sessions count coming between old mid clients in
     let one = client_adds state told sessions end last between left mid new is in
     record {
       added = before.added ++ one.added;
-      grows = grows_more before.added one.added old mid new before.grows one.grows;
+      grows = grows_more state before.added one.added old mid new before.grows one.grows;
       leaves = λ small. one.leaves (before.leaves small);
     }
 

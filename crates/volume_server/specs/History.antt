@@ -3,6 +3,7 @@ use Rattle.std.specs.Prelude.{◌≡◌, ℕ, ◌+◌, ◌^◌, ◌≤◌, List,
 use Rattle.lsvd_base.specs.declared.entry.Entry.{Entry}
 use Rattle.lsvd_objstore.specs.Store.{ReceiptState, Becomes}
 use Rattle.stopped_volume.specs.Device.{CacheOwner}
+use Rattle.stopped_volume.specs.Store.{TellsBytes}
 use Rattle.vol_core.specs.Step.{HasSameSizes}
 use Rattle.vol_core.specs.Stops.{HasOwnCommits}
 use Rattle.vol_core.specs.View.{volume_uuid}
@@ -17,13 +18,14 @@ use Rattle.nbd_session.specs.BlockDevice.{max_session_steps}
 use Rattle.volume_server.specs.OwnerDevice.{owner_relations}
 
 -- A volume's history has these entries more. Its sizes stay, the commits stay its own, and the store has changed under the names
--- of the volume's own numbered objects alone. Where the store stood for what the volume showed, it stands for what it shows now.
-pub record Grows (added : List Entry) (old new : Moment) : Type 0 where
+-- of the volume's own numbered objects alone. Where all receipts tell their bytes, and the store stood for what the volume
+-- showed, it stands for what it shows now.
+pub record Grows {R : Type 0} (state : R → ReceiptState) (added : List Entry) (old new : Moment) : Type 0 where
   pub adds : Adds added old.volume.volume new.volume.volume
   pub sizes : HasSameSizes old.volume.volume new.volume.volume
   pub own : (owner : CacheOwner) → HasOwnCommits owner old.volume.volume → HasOwnCommits owner new.volume.volume
   pub store : Becomes (KeepsOtherNames (volume_uuid old.volume.volume)) old.store.objects new.store.objects
-  pub stands : KeepsStore added old new
+  pub stands : TellsBytes state → KeepsStore added old new
 
 -- Each request is made where the volume has made fewer than the most steps of a session, and takes few itself. So a volume that
 -- had room for calls of its owner before a session has room after it.
@@ -41,7 +43,7 @@ entered_in exchanges = flat_map (λ exchange. exchange.entered) exchanges
 abbrev pub RequestsGrow : {R : Type 0} → (R → ReceiptState) → Type 0
 RequestsGrow state =
     (exchanges : List RequestExchange) (old new : Moment) → AreRequestExchanges (owner_relations state) exchanges old new
-    → Grows (entered_in exchanges) old new × LeavesRoom old new
+    → Grows state (entered_in exchanges) old new × LeavesRoom old new
 
 -- what a session adds beside those: one entry at most where its link failed, and else none
 abbrev pub MayAdd : SessionEnd → List Entry → Type 0
@@ -56,4 +58,4 @@ abbrev pub SessionGrows : {R : Type 0} → (R → ReceiptState) → Type 0
 SessionGrows state =
     (end : SessionEnd) (first last : LinkBytes) (old new : Moment)
     (session : Transmits (owner_relations state) end first last old new)
-    → (more : List Entry) × MayAdd end more × Grows (entered_in session.exchanges ++ more) old new × LeavesRoom old new
+    → (more : List Entry) × MayAdd end more × Grows state (entered_in session.exchanges ++ more) old new × LeavesRoom old new

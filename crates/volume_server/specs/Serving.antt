@@ -115,4 +115,4 @@ abbrev pub ClientsGrow : {R K : Type 0} → (R → ReceiptState) → (K → Conn
 ClientsGrow {R} {K} state told =
     (count : ℕ) (coming left : Option (List K)) (old new : Moment)
     → AreClients (owner_relations state) told count coming left old new
-    → ((added : List Entry) × Grows added old new) × LeavesRoom old new
+    → ((added : List Entry) × Grows state added old new) × LeavesRoom old new

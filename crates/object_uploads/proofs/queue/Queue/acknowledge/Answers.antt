@@ -5,6 +5,8 @@ use Rattle.object_uploads.specs.Queue.{with_receipt}
 use Rattle.object_uploads.proofs.QueueLemmas.{set_with, length-with}
 use Rattle.object_uploads.proofs.RoomLemmas.{kept_with}
 use Rattle.object_uploads.proofs.QueueKept.{known_as}
+use Rattle.object_uploads.specs.Receipts.{AreSealedStates}
+use Rattle.object_uploads.proofs.TellLemmas.{seen_given}
 use Rattle.object_uploads.proofs.queue.Queue.acknowledge.Goals as goal
 
 pub unwrap-requires : goal.unwrap-requires
@@ -22,7 +24,16 @@ invariant_of-self g c =
     let before = c.self.invariant in
     let kept = kept_with c.args.index change list _ _ _ _ _ _ _ _ set (λ s. refl) before.0 before.1 before.3 before.4
     before.5 before.6 in
-    (kept.0, kept.1, known_as _ _ before.2 refl refl refl refl, kept.2, kept.3, kept.4, kept.5)
+    let state = g.R.Receipt.state in (
+      kept.0,
+      kept.1,
+      known_as _ _ before.2 refl refl refl refl,
+      kept.2,
+      kept.3,
+      kept.4,
+      kept.5,
+      subst (AreSealedStates state) (sym set) (seen_given state c.args.index c.args.receipt list before.7),
+    )
 
 pub returns : goal.returns
 returns g c =

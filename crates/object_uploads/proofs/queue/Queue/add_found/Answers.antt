@@ -39,6 +39,7 @@ invariant_of-self-2 g c =
       omega (arith, size, ap count_out out),
       omega (arith, size),
       before.6,
+      before.7,
     )
 
 pub returns-clause-known : goal.returns-clause-known
@@ -69,4 +70,5 @@ invariant_of-self-in_err-reserve-2 g c =
       omega (arith, before.4, c.reserve.ensures.kept),
       omega (arith, size),
       before.6,
+      before.7,
     )

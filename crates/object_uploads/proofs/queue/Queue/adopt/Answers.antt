@@ -1,6 +1,7 @@
 use Rattle.std.proofs.Common.{◌≡◌, ◌+◌, ◌∷◌, ◌++◌, List, [], length, sym, ◌∙◌, ap, refl, subst, arith}
 use Rattle.object_uploads.specs.State.{NumberedReceipt, QueueState}
 use Rattle.object_uploads.specs.Queue.{IsNextSettled}
+use Rattle.object_uploads.specs.Receipts.{AreSealedStates}
 use Rattle.object_uploads.specs.Invariant.{AllMaySettle}
 use Rattle.object_uploads.proofs.RoomLemmas.{room_kept}
 use Rattle.object_uploads.proofs.QueueKept.{known_kept}
@@ -19,6 +20,7 @@ invariant_of-self g c =
       omega (arith, size, before.4, e.receipts_kept),
       omega (arith, size, before.5, e.object_kept),
       omega (arith, size, before.6),
+      subst (AreSealedStates g.R.Receipt.state) (sym e.sealed) before.7,
     )
 
 pub invariant_of-self-2 : goal.invariant_of-self-2
@@ -33,22 +35,23 @@ invariant_of-self-2 g c =
       omega (arith, size, before.4, e.receipts_kept),
       omega (arith, size, before.5, e.object_kept),
       omega (arith, size, before.6),
+      subst (AreSealedStates g.R.Receipt.state) (sym e.sealed) before.7,
     )
 
 pub returns-clause-settled : goal.returns-clause-settled
 returns-clause-settled g c =
-    let e = c.settle_object.ensures in
+    let e = c.settle_sealed.ensures in
     let made = c.make_room.ensures in
     let none = subst (λ (q : QueueState). q.sealed ≡ []) (sym c.self.view_is) c.requires.none in
     let own : NumberedReceipt =
     record { number = c.self.inside.frontier + 1; receipt = g.R.Receipt.state c.args.receipt } in
-    subst (λ (q : QueueState). IsNextSettled c.args.rows.now c.args.end (g.R.Receipt.state c.args.receipt) q
-    c.settle_object.new.self) c.self.view_is (record {
+    subst (λ (q : QueueState). IsNextSettled c.args.rows c.args.end (g.R.Receipt.state c.args.receipt) q
+    c.settle_sealed.new.self) c.self.view_is (record {
       frontier = e.frontier;
       ends = e.end;
       sealed = e.sealed ∙ (made.sealed ∙ none);
       receipts = e.receipts ∙ ap (λ (list : List NumberedReceipt). list ++ own ∷ []) made.receipts;
       removal = e.removal;
-      maps = settles_from (c.self.inside.frontier + 1) c.len-size.result _ c.args.end c.args.rows.now c.self.inside.maps
-          c.make_room.new.maps c.settle_object.new.self.maps c.len-size.ensures made.places e.maps;
+      maps = settles_from (c.self.inside.frontier + 1) c.len-size.result _ c.args.end c.args.rows c.self.inside.maps
+          c.make_room.new.maps c.settle_sealed.new.self.maps c.requires.no_checkpoint c.len-size.ensures made.places e.maps;
     })

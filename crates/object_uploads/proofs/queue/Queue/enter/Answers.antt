@@ -21,4 +21,5 @@ invariant_of-self g c =
       before.4,
       omega (arith, before.5, ap (λ (t : TableState). t.spare) same),
       before.6,
+      before.7,
     )

@@ -49,6 +49,7 @@ invariant_of-self-2 g c =
       before.4,
       omega (arith, size),
       before.6,
+      before.7,
     )
 
 pub returns-clause-known : goal.returns-clause-known
@@ -78,6 +79,7 @@ invariant_of-self-in_err-map_sectors g c =
       before.4,
       omega (arith, size),
       before.6,
+      before.7,
     )
 
 pub invariant_of-self : goal.invariant_of-self
@@ -93,4 +95,5 @@ invariant_of-self g c =
       before.4,
       omega (arith, size),
       before.6,
+      before.7,
     )

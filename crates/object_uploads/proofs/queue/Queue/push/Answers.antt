@@ -2,9 +2,12 @@ use Rattle.std.proofs.Common.{rules, ◌≡◌, ◌+◌, ◌<◌, ◌≤◌, ◌
 use Rattle.std.proofs.Common.{arith}
 use Rattle.object_uploads.specs.State.{QueueState}
 use Rattle.object_uploads.specs.Queue.{just_sealed, count_of_rows}
+use Rattle.object_uploads.specs.Receipts.{AreSealedStates}
 use Rattle.object_uploads.specs.Invariant.{AllMaySettle, count_out}
 use Rattle.object_uploads.proofs.RoomLemmas.{room_kept, rows_pushed, room_pushed, fit_pushed, counts_pushed}
 use Rattle.object_uploads.proofs.QueueKept.{known_kept}
+use Rattle.object_uploads.proofs.CopyImage.{all_more}
+use Rattle.object_uploads.proofs.TellLemmas.{SealedIsSeen}
 use Rattle.object_uploads.proofs.queue.Queue.push.Goals as goal
 
 pub invariant_of-self : goal.invariant_of-self
@@ -19,6 +22,7 @@ invariant_of-self g c =
       omega (arith, size, before.4, e.receipts_kept),
       omega (arith, size, before.5, e.object_kept),
       omega (arith, size, before.6),
+      subst (AreSealedStates g.R.Receipt.state) (sym e.sealed) before.7,
     )
 
 pub invariant_of-self-2 : goal.invariant_of-self-2
@@ -27,6 +31,7 @@ invariant_of-self-2 g c =
     let before = c.self.invariant in
     let old = c.self.inside.sealed.items in
     let object = just_sealed c.args.object c.args.rows c.args.end in
+    let state = g.R.Receipt.state in
     let pushed : c.push_back_reserved.new.self.items ≡ old ++ object ∷ [] =
     c.push_back_reserved.ensures.items
     ∙ (ap (λ list. list ++ c.new.result ∷ []) e.sealed ∙ ap (λ s. old ++ s ∷ []) c.new.ensures) in
@@ -48,4 +53,5 @@ invariant_of-self-2 g c =
       counts.0,
       counts.1,
       counts.2,
+      subst (AreSealedStates state) (sym pushed) (all_more (SealedIsSeen state) old object tt before.7),
     )

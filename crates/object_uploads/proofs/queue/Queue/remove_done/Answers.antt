@@ -27,6 +27,7 @@ invariant_of-self g c =
       omega (arith, before.4),
       omega (arith, before.5, e.spare, size, fewer),
       before.6,
+      before.7,
     )
 
 pub returns-clause-known : goal.returns-clause-known

@@ -20,6 +20,7 @@ invariant_of-self g c =
       omega (arith, before.4, c.give_back.ensures.spare, ap count_out out),
       before.5,
       before.6,
+      before.7,
     )
 
 pub returns-clause-known : goal.returns-clause-known

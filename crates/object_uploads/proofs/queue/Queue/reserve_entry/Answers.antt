@@ -14,4 +14,5 @@ invariant_of-self g c =
       before.4,
       omega (arith, before.5, e.object_kept),
       before.6,
+      before.7,
     )

@@ -30,4 +30,5 @@ invariant_of-self g c =
       counts.0,
       counts.1,
       counts.2,
+      before.7,
     )

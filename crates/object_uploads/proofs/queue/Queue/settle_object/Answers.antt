@@ -1,9 +1,10 @@
 use Rattle.std.proofs.Common.{◌≡◌, ◌+◌, ◌-◌, ◌<◌, ◌≤◌, ◌^◌, length, sym, refl, subst, arith}
 use Rattle.std.specs.List.{sum_by}
 use Rattle.object_table.specs.Table.{new_row, added}
-use Rattle.volume_maps.specs.Maps.{MapsState}
+use Rattle.volume_maps.specs.Maps.{MapsState, settled_by}
 use Rattle.object_uploads.specs.State.{QueueState}
 use Rattle.object_uploads.specs.Queue.{row_count, SettlesObject}
+use Rattle.object_uploads.proofs.DeadLemmas.{data_gives}
 use Rattle.object_uploads.proofs.RoomLemmas.{place_parts, room_settled, counts_settled}
 use Rattle.object_uploads.proofs.QueueKept.{next_is_newest, newest_may_come}
 use Rattle.object_uploads.proofs.QueueSettled.{settles_added, known_settled}
@@ -36,12 +37,15 @@ invariant_of-self g c =
     let counts = counts_settled _ _ _ _ _ _ _ _ place.1 c.push.ensures.spare place.2 objects small in (
       room_settled _ _ maps c.settle.new.self had had_log e.settled_spare e.log_spare before.0,
       before.1,
-      known_settled _ _ middle payload front rows (g.R.Receipt.state c.args.receipt) before.2 refl c.push.ensures.list refl refl
-          e.objects e.settled e.shortest e.counted,
+      known_settled _ _ middle payload front (settled_by (c.self.inside.frontier + 1) rows) (g.R.Receipt.state c.args.receipt)
+          (data_gives (c.self.inside.frontier + 1) rows) before.2 refl c.push.ensures.list refl refl e.objects e.settled
+          e.shortest
+          e.counted,
       before.3,
       counts.0,
       counts.1,
       counts.2,
+      before.7,
     )
 
 pub returns-clause-maps : goal.returns-clause-maps

@@ -27,6 +27,7 @@ invariant_of-self g c =
       omega (arith, before.4, ap count_out none, fewer, left, e.room),
       before.5,
       before.6,
+      before.7,
     )
 
 pub returns-clause-next : goal.returns-clause-next

@@ -19,6 +19,7 @@ invariant_of-self g c =
       before.4,
       omega (arith, before.5, ap (λ (t : TableState). t.spare) objects),
       before.6,
+      before.7,
     )
 
 pub returns-clause-known : goal.returns-clause-known

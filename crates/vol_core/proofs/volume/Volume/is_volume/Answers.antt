@@ -1,4 +1,5 @@
-use Rattle.std.proofs.Common.{subst}
+use Rattle.std.proofs.Common.{true, subst}
+use Rattle.object_uploads.specs.Image.{TellAlike}
 use Rattle.vol_core.specs.Volume.{VolumeState, SteppedVolume, volume_of}
 use Rattle.vol_core.specs.Shows.{IsVolume, IsSound}
 use Rattle.vol_core.proofs.volume.Volume.is_volume.Goals as goal
@@ -15,4 +16,7 @@ returns g c =
     record {
       shown = subst IsVolume c.self.view_is c.self.invariant;
       order = subst (λ (s : SteppedVolume). IsSound s.volume) c.self.view_is order;
+      told = λ all.
+          subst (λ (s : SteppedVolume). TellAlike true s.volume.objects.uploads.queue) c.self.view_is
+          (rw c.uploads-2.ensures at c.tell_alike.ensures.told all);
     }

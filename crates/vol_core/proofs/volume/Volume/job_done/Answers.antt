@@ -16,7 +16,7 @@ invariant_of-self g c =
     let is = c.self.invariant in
     let step =
     step_of_done g.R.Receipt.state volume objects is.plain is.shows c.args.job c.args.receipt reply ready.order.uploads
-    c.job_done.ensures.order c.requires.receipt c.job_done.ensures.done in
+    c.job_done.ensures.order c.requires.receipt (_, c.job_done.ensures.alike) c.job_done.ensures.done in
     steps_keep_volume g.R.Receipt.state (events.JobDone c.args.job c.args.receipt) reply volume (with_objects objects volume)
     inside.steps is ready step.step step.numbers
 
@@ -30,4 +30,4 @@ returns-clause-step g c =
     let is = c.self.invariant in
     step_seen g.R.Receipt.state (events.JobDone c.args.job c.args.receipt) reply (with_objects objects volume) _ _ c.self.view_is
     (step_of_done g.R.Receipt.state volume objects is.plain is.shows c.args.job c.args.receipt reply ready.order.uploads
-    c.job_done.ensures.order c.requires.receipt c.job_done.ensures.done)
+    c.job_done.ensures.order c.requires.receipt (_, c.job_done.ensures.alike) c.job_done.ensures.done)

@@ -19,6 +19,7 @@ returns g c =
     record {
       step = step;
       count = count;
+      told = c.count_step.ensures.told;
       was = was;
       order = subst (λ (s : SteppedVolume). IsSound s.volume) counted c.count_step.ensures.ready.order;
       is = counted_keeps_volume state c.args.event c.answer.result old new was c.requires.steps step count;

@@ -15,7 +15,7 @@ invariant_of-self g c =
     let ready = subst IsReadyForStep (sym c.self.view_is) c.requires in
     let step =
     step_of_removal g.R.Receipt.state volume objects was.plain was.shows ready.order.uploads c.take_remove.ensures.order
-    c.take_remove.result c.take_remove.ensures.begun in
+    c.take_remove.result (_, c.take_remove.ensures.alike) c.take_remove.ensures.begun in
     steps_keep_volume g.R.Receipt.state events.TakeRemove c.take_remove.result volume (with_objects objects volume)
     inside.steps was ready step.step step.numbers
 
@@ -29,4 +29,4 @@ returns-clause-step g c =
     step_seen g.R.Receipt.state events.TakeRemove c.take_remove.result
     (with_objects objects volume) _ _ c.self.view_is
     (step_of_removal g.R.Receipt.state volume objects was.plain was.shows ready.order.uploads c.take_remove.ensures.order
-    c.take_remove.result c.take_remove.ensures.begun)
+    c.take_remove.result (_, c.take_remove.ensures.alike) c.take_remove.ensures.begun)

@@ -10,15 +10,14 @@ use Rattle.volume_maps.proofs.Planned.{places_below, plans_copy, both_ok}
 use Rattle.volume_maps.proofs.maps.VolumeMaps.plan_copy.Goals as goal
 
 pub returns : goal.returns
-returns c =
+returns c volume places =
     let inside = c.self.inside in
     let maps : MapsState = record { settled = inside.settled; log = inside.log; objects = inside.objects } in
     let view : maps ≡ c.args.self.now = c.self.view_is in
-    let volume = c.args.sectors in
     let most = c.args.most in
     let parts = c.in_ok-planned.planned.rows in
     let victims = c.deref.result.now in
-    let in_volume : PlacesAreIn volume maps = subst (PlacesAreIn volume) (sym view) c.requires.places in
+    let in_volume : PlacesAreIn volume maps = subst (PlacesAreIn volume) (sym view) places in
     let are : AreVictims maps.objects.rows victims =
     subst (AreVictims maps.objects.rows) (sym c.deref.ensures.value) c.in_ok-victims.ensures in
     subst (λ maps. IfOk c.copy_rows.result (λ rows. PlansCopy volume most maps rows.items)) view
