@@ -6,10 +6,10 @@
 //! and one that is refused adds none; a flush that is answered has committed the whole history; a drain that
 //! is answered has done so too, left nothing to seal or to put behind a checkpoint, and no object to remove;
 //! a read gives the sectors of the history. Each call is made of steps of the volume, puts of its objects,
-//! removals and gets, over which the store goes on standing for the volume. `Eio` is answered exactly where
-//! one call of the disk or of the store failed. It stands on `vol_core` for the volume, on `object_uploads`
-//! and `read_plan` for puts and plans, on `lsvd_objstore` for the store, and on `refine_store` for what
-//! stands in it.
+//! removals and gets, over which the store goes on standing for the volume, where receipts tell their
+//! objects' bytes. `Eio` is answered exactly where one call of the disk or of the store failed. It stands on
+//! `vol_core` for the volume, on `object_uploads` and `read_plan` for puts and plans, on `lsvd_objstore` for
+//! the store, and on `refine_store` for what stands in it.
 #![tactic(auto)]
 
 mod clearing;
