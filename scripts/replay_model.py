@@ -6,6 +6,7 @@ program, and is written without a look at it.
 import itertools
 import re
 from dataclasses import dataclass, field
+from fractions import Fraction
 
 LINE_LIMIT = 65_536
 SCRIPT_LIMIT = 16_777_216
@@ -71,6 +72,9 @@ class Volume:
     checkpoints: set = field(default_factory=lambda: {1})
     newest: int = 1
     removed: set = field(default_factory=set)
+    # the sectors of each copy, each with the object that it is copied from, and those of the plan of a copy that is out
+    copies: dict = field(default_factory=dict)
+    plan: list | None = None
     # the place behind the last record, the last commit, and a later one of which the first half was made alone
     head: int = 0
     mark: Mark = field(default_factory=lambda: Mark(0, 0, 0, 0))
@@ -169,22 +173,60 @@ class Volume:
         self.uploads[number].is_out = False
         return f"failed {number}"
 
+    # -- the object that a sector is in
+
+    def owners(self, first, last):
+        """The object that each sector is in after the objects from one up to another, if it is in one of them."""
+        owners = {}
+        for number in range(first, last + 1):
+            for lba, source in self.copies.get(number, []):
+                if owners.get(lba) == source:
+                    owners[lba] = number
+            for entry in self.entries[self.ends[number - 2]:self.ends[number - 1]]:
+                end = entry.lba + entry.sectors
+                if entry.is_write:
+                    owners.update(dict.fromkeys(range(entry.lba, end), number))
+                else:
+                    owners = {lba: owner for lba, owner in owners.items() if not entry.lba <= lba < end}
+        return owners
+
+    # -- collections
+
+    def payload(self, number):
+        """How many sectors an object has: those that it copies, or that its own writes and zeroings leave in it."""
+        return len(self.copies[number] if number in self.copies else self.owners(number, number))
+
+    def plan_copy(self):
+        if self.plan is not None:
+            return "busy"
+        live = {}
+        for lba, number in sorted(self.owners(2, self.frontier()).items()):
+            live.setdefault(number, []).append(lba)
+        shares = sorted((Fraction(len(sectors), self.payload(number)), number) for number, sectors in live.items())
+        victims = [number for share, number in shares if share < Fraction(70, 100)]
+        sectors = [(lba, number) for number in victims for lba in live[number]][:self.batch]
+        if not sectors:
+            return "none"
+        self.plan = sectors
+        return f"copied {len(sectors)}"
+
+    def seal_copy(self):
+        if len(self.uploads) == MOST_OBJECTS:
+            return "busy"
+        answer = self.seal_object(self.ends[-1], is_checkpoint=False)
+        self.copies[len(self.ends)] = self.plan
+        self.plan = None
+        return answer
+
+    def drop_plan(self):
+        self.plan = None
+        return "dropped"
+
     # -- removals
 
-    def mapped(self):
-        """The objects in which the newest acknowledged checkpoint has a sector: a write in an object before it has one unless
-        later entries of such objects cover the whole of it."""
-        found, covered = set(), []
-        for number in range(self.newest - 1, 1, -1):
-            for entry in reversed(self.entries[self.ends[number - 2]:self.ends[number - 1]]):
-                rest = uncovered(covered, entry.lba, entry.lba + entry.sectors)
-                if rest and entry.is_write:
-                    found.add(number)
-                covered += rest
-        return found
-
     def remove(self):
-        kept = self.mapped() | self.removed
+        """Removes the lowest object before the newest acknowledged checkpoint in which that has no sector."""
+        kept = set(self.owners(2, self.newest).values()) | self.removed | {source for _, source in self.plan or []}
         lowest = next((number for number in range(1, self.newest) if number not in kept), None)
         if lowest is None:
             return "none"
@@ -260,11 +302,12 @@ class Volume:
         missing = [number for number in self.uploads if number not in landed and number > self.newest]
         del self.ends[min(missing, default=len(self.ends) + 1) - 1:]
         self.checkpoints &= set(range(1, len(self.ends) + 1))
+        self.copies = {number: sectors for number, sectors in self.copies.items() if number <= len(self.ends)}
         return self.ends[-1]
 
     def mounted(self, kept):
         del self.entries[kept:]
-        self.uploads, self.half_made, self.left, self.pending = {}, None, None, []
+        self.uploads, self.plan, self.half_made, self.left, self.pending = {}, None, None, None, []
         return f"mounted {len(self.entries)} {len(self.ends)}"
 
     def crash_keep(self, device, objects):
@@ -283,19 +326,11 @@ class Volume:
         return self.mounted(end)
 
 
-def uncovered(covered, start, end):
-    """The parts of the sectors from one up to another that none of the covered ranges has."""
-    rest = [(start, end)]
-    for first, last in covered:
-        rest = [part for low, high in rest for part in ((low, min(high, first)), (max(low, last), high)) if part[0] < part[1]]
-    return rest
-
-
 # ---- scripts
 
 # how many words each command has
-WORDS = {"new": 5, "w": 4, "z": 3, "r": 3, "f": 1, "s": 1, "u": 1, "d": 2, "x": 2, "c": 1, "k": 1, "i": 1, "stop": 2}
-WORDS |= {"crash": 4, "crash keep": 4, "crash lost": 4}
+WORDS = {"new": 5, "w": 4, "z": 3, "r": 3, "f": 1, "s": 1, "u": 1, "d": 2, "x": 2, "c": 1, "g": 1, "G": 1, "q": 1, "k": 1, "i": 1}
+WORDS |= {"stop": 2, "crash": 4, "crash keep": 4, "crash lost": 4}
 
 
 def name_of(words):
@@ -376,6 +411,12 @@ class Replay:
                 return volume.begin_put()
             case "c":
                 return volume.seal_checkpoint()
+            case "g":
+                return volume.plan_copy()
+            case "G" | "q":
+                if volume.plan is None:
+                    raise BadLine(NOT_ALLOWED)
+                return volume.seal_copy() if name == "G" else volume.drop_plan()
             case "k":
                 return volume.remove()
             case "i":

@@ -188,6 +188,7 @@ module _ (uuid : List ℕ) (geometry : Geometry) (checkpoint number end : ℕ) (
         history = omega arith;
         pins = refl;
         none_out = refl;
+        no_plan = refl;
         gone = refl;
         cache = refl;
       }

@@ -105,6 +105,7 @@ mounted_is_at_rest uuid log plain number objects valid has limits =
       history = history;
       pins = refl;
       none_out = refl;
+      no_plan = refl;
       gone = has.gone;
       cache = refl;
     }

@@ -4,6 +4,7 @@ mod Describing
 mod Halting
 mod Mounts
 mod Opening
+mod Planning
 mod PlainLemmas
 mod PutLemmas
 mod Putting
@@ -16,3 +17,4 @@ mod Standing
 mod Stepped
 mod WindowLemmas
 mod Windows
+pub mod Copies

@@ -687,6 +687,22 @@ pub rig_anew : (rig : RigState) (plain : PlainState) (letters : List ℕ) (new a
 rig_anew rig plain letters new after mounted sectors h was log volume mounts numbers =
     lost_rig rig plain letters new after mounted sectors h was.lands was.few log volume mounts numbers
 
+-- no plan of a copy is out then
+pub no_plan_again : (rig : RigState) (plain : PlainState) (fates : List Fate) (letters : List ℕ) (new after : Objects)
+    (left : DiskState) (mounted : MountedState)
+    → ShowsPlain rig plain → WasStopped rig fates letters new left
+    → MountedAs (log_of left.size) (λ epoch. epoch) new mounted after → mounted.volume.volume.plan ≡ None
+no_plan_again rig plain fates letters new after left mounted h was volume =
+    (volume plain.geometry h.epoch (has_log rig plain fates left h was.on_disk was.left_by).0
+    (described_left rig plain letters new h was.lands)).volume.no_plan
+
+pub no_plan_anew : (rig : RigState) (plain : PlainState) (letters : List ℕ) (new after : Objects) (mounted : MountedState)
+    (sectors : ℕ)
+    → ShowsPlain rig plain → WasLost rig letters new → plain.geometry.log ≡ sectors
+    → MountedAs sectors (λ epoch. epoch + 1) new mounted after → mounted.volume.volume.plan ≡ None
+no_plan_anew rig plain letters new after mounted sectors h was log volume =
+    (volume plain.geometry h.epoch log (described_left rig plain letters new h was.lands)).volume.no_plan
+
 pub told_by : (rig : RigState) (letters : List ℕ) (plain made : PlainState) (mounted : MountedState) (after : Objects)
     (answer : Answer)
     (bench : RigState)

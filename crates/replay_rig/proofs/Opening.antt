@@ -17,6 +17,7 @@ use Rattle.vol_core.specs.Shows.{Shows}
 use Rattle.vol_core.specs.Step.{passing}
 use Rattle.replay_rig.specs.Crash.{IsNewVolume}
 use Rattle.replay_rig.specs.Rig.{rig_of, script_uuid, expected_of_plain, ShowsPlain}
+use Rattle.replay_rig.proofs.Copies.{none_out}
 
 pub fuse_told : (budget : Option Budget) (fuse : Fuse) → fuse_of budget ≡ Some fuse → fuse_in budget ≡ fuse
 fuse_told None fuse is = cc
@@ -28,6 +29,13 @@ opening_object : (geometry : Geometry) (objects : Objects)
     → IsObjectOf (expected_of script_uuid geometry) (created_volume geometry) 1 first.bytes
 opening_object geometry objects first =
     inl (record { first = refl; rows = first.rows; is_checkpoint = first.is_checkpoint; says = first.says })
+
+-- no plan of a copy is out
+pub new_has_no_plan : (geometry : Geometry) (volume : SteppedVolume) (objects : Objects) → IsNewVolume geometry volume objects
+    → volume.volume.plan ≡ None
+new_has_no_plan geometry volume objects new =
+    none_out volume.volume.objects.uploads.queue volume.volume.plan
+    (passing (fuse_in volume.volume.log.commits.disk.budget) (created_volume geometry)) new.created.shows.plan refl
 
 pub new_rig : (geometry : Geometry) (volume : SteppedVolume) (objects : Objects) → IsNewVolume geometry volume objects
     → ShowsPlain (rig_of volume objects [] false 0) (created_volume geometry)

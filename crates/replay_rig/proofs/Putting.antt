@@ -45,10 +45,12 @@ use Rattle.vol_core.specs.declared.event.Event.{Event}
 use Rattle.vol_core.specs.declared.event.Event.TheVariants.{TakeJob, JobDone, JobFailed}
 use Rattle.vol_core.specs.declared.reply.EntryRefusal.{EntryRefusal}
 use Rattle.vol_core.specs.declared.reply.EntryRefusal.TheVariants as refusals
+use Rattle.vol_core.specs.declared.reply.SealRefusal.{SealRefusal}
+use Rattle.vol_core.specs.declared.reply.SealRefusal.TheVariants as seal_refusals
 use Rattle.vol_core.specs.declared.reply.Reply.{Reply}
 use Rattle.vol_core.specs.declared.reply.Reply.TheVariants as told
 use Rattle.vol_core.specs.Volume.{VolumeState, SteppedVolume}
-use Rattle.vol_core.specs.Events.{IsOfPut, IsOfDonePut, Tells, TellsRefusal}
+use Rattle.vol_core.specs.Events.{IsOfPut, IsOfDonePut, Tells, TellsRefusal, TellsSealRefusal}
 use Rattle.vol_core.specs.Step.{IsOnItsWay, HasBytesOf, CountedStep}
 use Rattle.replay_rig.specs.declared.answer.Answer.{Answer}
 use Rattle.replay_rig.specs.declared.answer.Answer.TheVariants as answers
@@ -243,6 +245,11 @@ not_refused (refusals.NoRoom lacking left) number tells = cc
 not_refused refusals.Fault number tells = cc
 not_refused refusals.OutOfMemory number tells = tells
 
+not_unsealed : (why : SealRefusal) (number : ℕ) → TellsSealRefusal why (replies.Taken number) → ⊥
+not_unsealed seal_refusals.NotPlanned number tells = cc
+not_unsealed seal_refusals.Busy number tells = cc
+not_unsealed seal_refusals.OutOfMemory number tells = tells
+
 none_taken : (lowest : Option ℕ) (volume : VolumeState) (reply : Reply Kept) → ((job : JobState) → reply ≡ told.Taken job → ⊥)
     → Tells told_receipt volume reply (reply_of_taken lowest) → lowest ≡ None
 none_taken None volume reply not_taken tells = refl
@@ -250,6 +257,8 @@ none_taken (Some number) volume (told.Taken job) not_taken tells = absurd (not_t
 none_taken (Some number) volume (told.NotEntered entry why) not_taken tells = absurd (not_refused why number tells)
 none_taken (Some number) volume (told.Planned plan) not_taken tells = (let same = tells.1 in cc)
 none_taken (Some number) volume (told.Removing receipt) not_taken tells = (let same = tells.0 in cc)
+none_taken (Some number) volume (told.Copying plan) not_taken tells = (let same = tells.1 in cc)
+none_taken (Some number) volume (told.NotSealed copied why) not_taken tells = absurd (not_unsealed why number tells)
 none_taken (Some number) volume told.OutOfMemory not_taken tells = absurd tells
 none_taken (Some number) volume reply not_taken tells = cc
 

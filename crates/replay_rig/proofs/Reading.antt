@@ -31,9 +31,11 @@ use Rattle.read_plan.specs.Plan.{PlanState, Gives, GivesNoOther}
 use Rattle.vol_core.specs.declared.event.Event.TheVariants.{Look, Release}
 use Rattle.vol_core.specs.declared.reply.EntryRefusal.{EntryRefusal}
 use Rattle.vol_core.specs.declared.reply.EntryRefusal.TheVariants as refusals
+use Rattle.vol_core.specs.declared.reply.SealRefusal.{SealRefusal}
+use Rattle.vol_core.specs.declared.reply.SealRefusal.TheVariants as seal_refusals
 use Rattle.vol_core.specs.declared.reply.Reply.{Reply}
 use Rattle.vol_core.specs.declared.reply.Reply.TheVariants as told
-use Rattle.vol_core.specs.Events.{TellsRead, Tells, TellsRefusal}
+use Rattle.vol_core.specs.Events.{TellsRead, Tells, TellsRefusal, TellsSealRefusal}
 use Rattle.vol_core.specs.Volume.{VolumeState, SteppedVolume}
 use Rattle.batcher.specs.declared.full.Full.TheVariants as full
 use Rattle.vol_core.specs.Step.{CountedStep}
@@ -146,6 +148,11 @@ refusal_no_plan (refusals.NoRoom lacking left) read tells = cc
 refusal_no_plan refusals.Fault read tells = cc
 refusal_no_plan refusals.OutOfMemory read tells = tells
 
+unsealed_no_plan : (why : SealRefusal) (read : PlannedRead) → TellsSealRefusal why (replies.Planned read) → ⊥
+unsealed_no_plan seal_refusals.NotPlanned read tells = cc
+unsealed_no_plan seal_refusals.Busy read tells = cc
+unsealed_no_plan seal_refusals.OutOfMemory read tells = tells
+
 -- a reply that is no plan tells none
 no_plan_told : (volume : VolumeState) (reply : Reply Kept) (read : PlannedRead)
     → ((plan : PlanState) → reply ≡ told.Planned plan → ⊥)
@@ -166,6 +173,9 @@ no_plan_told volume (told.Removing receipt) read none tells = (let is = tells.0 
 no_plan_told volume told.Removed read none tells = cc
 no_plan_told volume told.GivenBack read none tells = cc
 no_plan_told volume (told.NotGivenBack receipt) read none tells = cc
+no_plan_told volume (told.Copying plan) read none tells = (let is = tells.1 in cc)
+no_plan_told volume (told.NotSealed copied why) read none tells = unsealed_no_plan why read tells
+no_plan_told volume told.Dropped read none tells = cc
 no_plan_told volume (told.Told writes sealed frontier checkpoint) read none tells = cc
 no_plan_told volume told.Range read none tells = cc
 no_plan_told volume told.Nothing read none tells = cc

@@ -28,10 +28,12 @@ use Rattle.transcript.specs.Answers.{removed_by}
 use Rattle.vol_core.specs.declared.event.Event.TheVariants.{TakeRemove, RemoveDone}
 use Rattle.vol_core.specs.declared.reply.EntryRefusal.{EntryRefusal}
 use Rattle.vol_core.specs.declared.reply.EntryRefusal.TheVariants as refusals
+use Rattle.vol_core.specs.declared.reply.SealRefusal.{SealRefusal}
+use Rattle.vol_core.specs.declared.reply.SealRefusal.TheVariants as seal_refusals
 use Rattle.vol_core.specs.declared.reply.Reply.{Reply}
 use Rattle.vol_core.specs.declared.reply.Reply.TheVariants as told
 use Rattle.vol_core.specs.Volume.{VolumeState, SteppedVolume}
-use Rattle.vol_core.specs.Events.{Tells, TellsRefusal}
+use Rattle.vol_core.specs.Events.{Tells, TellsRefusal, TellsSealRefusal}
 use Rattle.vol_core.specs.Step.{CountedStep}
 use Rattle.replay_rig.specs.declared.answer.Answer.TheVariants as answers
 use Rattle.replay_rig.specs.Answers.{SaysReply}
@@ -42,8 +44,8 @@ use Rattle.replay_rig.proofs.Describing.{removed_keeps_volume}
 use Rattle.replay_rig.proofs.Rooms.{no_step_rig}
 use Rattle.replay_rig.proofs.Stepped.{ShowsVolume, volume_shown, step_of_plain, all_puts, bytes_kept, on_its_way}
 
--- no step of a removal needs room on the device
-no_room_asked : (budget : Option Budget) → IsTrue (is_some budget) → HasRoom 0 0 budget
+-- no step of a removal, and none of a copy, needs room on the device
+pub no_room_asked : (budget : Option Budget) → IsTrue (is_some budget) → HasRoom 0 0 budget
 no_room_asked None told = cc
 no_room_asked (Some budget) told = (omega arith, omega arith)
 
@@ -57,6 +59,11 @@ not_refused (refusals.NoRoom lacking left) number tells = cc
 not_refused refusals.Fault number tells = cc
 not_refused refusals.OutOfMemory number tells = tells
 
+not_unsealed : (why : SealRefusal) (number : ℕ) → TellsSealRefusal why (replies.Removing number) → ⊥
+not_unsealed seal_refusals.NotPlanned number tells = cc
+not_unsealed seal_refusals.Busy number tells = cc
+not_unsealed seal_refusals.OutOfMemory number tells = tells
+
 none_removing : (lowest : Option ℕ) (volume : VolumeState) (reply : Reply Kept)
     → ((receipt : Kept) → reply ≡ told.Removing receipt → ⊥)
     → Tells told_receipt volume reply (reply_of_removal None lowest) → lowest ≡ None
@@ -65,6 +72,8 @@ none_removing (Some number) volume (told.Removing receipt) not_removing tells = 
 none_removing (Some number) volume (told.NotEntered entry why) not_removing tells = absurd (not_refused why number tells)
 none_removing (Some number) volume (told.Planned plan) not_removing tells = (let same = tells.1 in cc)
 none_removing (Some number) volume (told.Taken job) not_removing tells = (let same = tells.0 in cc)
+none_removing (Some number) volume (told.Copying plan) not_removing tells = (let same = tells.1 in cc)
+none_removing (Some number) volume (told.NotSealed copied why) not_removing tells = absurd (not_unsealed why number tells)
 none_removing (Some number) volume told.OutOfMemory not_removing tells = absurd tells
 none_removing (Some number) volume reply not_removing tells = cc
 

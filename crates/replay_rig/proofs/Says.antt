@@ -1,6 +1,7 @@
 -- What is answered to a reply of a volume says what the plain volume replies.
 use Rattle.std.proofs.Common.{◌≡◌, ℕ, List, sym, subst, length}
-use Rattle.std.specs.Prelude.{Bool, true, false, not, if◌then◌else◌, Option, Some, None, IfSome, unwrap_or, option_map}
+use Rattle.std.specs.Prelude.{Bool, true, false, not, ◌&&◌, if◌then◌else◌, Option, Some, None, is_some, IfSome, unwrap_or}
+use Rattle.std.specs.Prelude.{option_map}
 use Rattle.std.specs.List.{sum_by}
 use Rattle.lsvd_base.specs.declared.entry.Entry.{Entry}
 use Rattle.lsvd_base.specs.declared.entry.Entry.TheVariants as entries
@@ -21,16 +22,21 @@ use Rattle.plain_disk.specs.Objects.{is_busy, has_unsealed, is_under_way}
 use Rattle.plain_disk.specs.Step.{plain_reply}
 use Rattle.vol_core.specs.declared.event.Event.{Event}
 use Rattle.vol_core.specs.declared.event.Event.TheVariants.{Write, Zero, Flush, Look, Release, Seal, TakeJob, JobDone, JobFailed}
-use Rattle.vol_core.specs.declared.event.Event.TheVariants.{SealCheckpoint, TakeRemove, RemoveDone, RemoveFailed, Status}
+use Rattle.vol_core.specs.declared.event.Event.TheVariants.{SealCheckpoint, TakeRemove, RemoveDone}
+use Rattle.vol_core.specs.declared.event.Event.TheVariants.{RemoveFailed, PlanCopy, SealCopy}
+use Rattle.vol_core.specs.declared.event.Event.TheVariants.{DropPlan, Status}
 use Rattle.vol_core.specs.declared.reply.EntryRefusal.{EntryRefusal}
 use Rattle.vol_core.specs.declared.reply.EntryRefusal.TheVariants as refusals
 use Rattle.vol_core.specs.declared.reply.Reply.{Reply}
 use Rattle.vol_core.specs.declared.reply.Reply.TheVariants as told
 use Rattle.vol_core.specs.Volume.{VolumeState}
-use Rattle.vol_core.specs.Events.{Asks, Tells, TellsRefusal}
+use Rattle.vol_core.specs.declared.reply.SealRefusal.{SealRefusal}
+use Rattle.vol_core.specs.declared.reply.SealRefusal.TheVariants as seal_refusals
+use Rattle.gc_copier.specs.Copying.{CopiedState}
+use Rattle.vol_core.specs.Events.{Asks, Tells, TellsRefusal, TellsSealRefusal}
 use Rattle.vol_core.specs.Step.{HasItsReceipt, lacks_memory}
 use Rattle.replay_rig.specs.declared.answer.Answer.{Answer}
-use Rattle.replay_rig.specs.Answers.{SaysReply, SaysRefusal, SaysCounts}
+use Rattle.replay_rig.specs.Answers.{SaysReply, SaysRefusal, SaysSealRefusal, SaysCounts}
 use Rattle.replay_rig.specs.Steps.{is_counted}
 
 -- ---- replies with counts
@@ -49,7 +55,7 @@ IsCountReply (replies.Removing number) = ⊥
 IsCountReply replies.Removed = ⊥
 IsCountReply replies.GivenBack = ⊥
 IsCountReply (replies.Copying sectors) = ⊥
-IsCountReply replies.Dropped = ⊥
+IsCountReply replies.Dropped = Unit {0}
 IsCountReply (replies.Told writes sealed frontier checkpoint) = Unit {0}
 IsCountReply (replies.BatchFull sectors) = Unit {0}
 IsCountReply (replies.EntriesFull count) = Unit {0}
@@ -94,6 +100,13 @@ entry_counts plain entry =
 pub done_counts : (plain : PlainState) (job : Option ℕ) → IsCountReply (plain_reply plain (events.JobDone job))
 done_counts plain job = either_counts (is_under_way job plain.window) _ _ tt tt
 
+pub copy_counts : (plain : PlainState) (is_planned : Bool) → IsCountReply (plain_reply plain (events.SealCopy is_planned))
+copy_counts plain is_planned =
+    either_counts (is_some plain.plan && is_planned) _ _ (either_counts (is_busy plain) _ _ tt tt) tt
+
+pub drop_counts : (plain : PlainState) → IsCountReply (plain_reply plain events.DropPlan)
+drop_counts plain = either_counts (is_some plain.plan) _ _ tt tt
+
 -- ---- what is said
 
 says_refusal : (why : EntryRefusal) (reply : PlainReply) (answer : Answer) → TellsRefusal why reply → SaysRefusal why answer
@@ -104,6 +117,13 @@ says_refusal (refusals.Full (full.Entries count)) reply answer tells says = subs
 says_refusal (refusals.NoRoom lacking left) reply answer tells says = subst (λ r. SaysReply r answer) (sym tells) says
 says_refusal refusals.Fault reply answer tells says = subst (λ r. SaysReply r answer) (sym tells) says
 says_refusal refusals.OutOfMemory reply answer tells says = absurd tells
+
+-- so is why what was copied was not sealed
+says_unsealed : (why : SealRefusal) (reply : PlainReply) (answer : Answer) → TellsSealRefusal why reply
+    → SaysSealRefusal why answer → SaysReply reply answer
+says_unsealed seal_refusals.NotPlanned reply answer tells says = subst (λ r. SaysReply r answer) (sym tells) says
+says_unsealed seal_refusals.Busy reply answer tells says = subst (λ r. SaysReply r answer) (sym tells) says
+says_unsealed seal_refusals.OutOfMemory reply answer tells says = absurd tells
 
 pub says_reply : (volume : VolumeState) (reply : Reply Kept) (plain : PlainReply) (answer : Answer)
     → Tells told_receipt volume reply plain → IsCountReply plain → SaysCounts reply answer → SaysReply plain answer
@@ -123,6 +143,9 @@ says_reply volume (told.Removing receipt) plain answer tells counts says = absur
 says_reply volume told.Removed plain answer tells counts says = absurd (subst IsCountReply tells counts)
 says_reply volume told.GivenBack plain answer tells counts says = absurd (subst IsCountReply tells counts)
 says_reply volume (told.NotGivenBack receipt) plain answer tells counts says = subst (λ r. SaysReply r answer) (sym tells) says
+says_reply volume (told.Copying plan) plain answer tells counts says = absurd (subst IsCountReply tells.1 counts)
+says_reply volume (told.NotSealed copied why) plain answer tells counts says = says_unsealed why plain answer tells says
+says_reply volume told.Dropped plain answer tells counts says = subst (λ r. SaysReply r answer) (sym tells) says
 says_reply volume (told.Told writes sealed frontier checkpoint) plain answer tells counts says =
     subst (λ r. SaysReply r answer) (sym tells) says
 says_reply volume told.Range plain answer tells counts says = subst (λ r. SaysReply r answer) (sym tells) says
@@ -140,8 +163,15 @@ lacks_by (refusals.NoRoom lacking left) entry answer lacks says = cc
 lacks_by refusals.Fault entry answer lacks says = cc
 lacks_by refusals.OutOfMemory entry answer lacks says = says
 
+lacks_unsealed : (why : SealRefusal) (copied : CopiedState) (answer : Answer)
+    → lacks_memory {R = Kept} (told.NotSealed copied why) ≡ true → SaysSealRefusal why answer → ⊥
+lacks_unsealed seal_refusals.NotPlanned copied answer lacks says = cc
+lacks_unsealed seal_refusals.Busy copied answer lacks says = cc
+lacks_unsealed seal_refusals.OutOfMemory copied answer lacks says = says
+
 pub lacks_unsaid : (reply : Reply Kept) (answer : Answer) → lacks_memory reply ≡ true → SaysCounts reply answer → ⊥
 lacks_unsaid (told.NotEntered entry why) answer lacks says = lacks_by why entry answer lacks says
+lacks_unsaid (told.NotSealed copied why) answer lacks says = lacks_unsealed why copied answer lacks says
 lacks_unsaid told.OutOfMemory answer lacks says = says
 lacks_unsaid reply answer lacks says = cc
 
@@ -164,6 +194,9 @@ counted_asks (JobFailed job) asked volume other is asks = cc
 counted_asks TakeRemove asked volume other is asks = cc
 counted_asks (RemoveDone number) asked volume other is asks = cc
 counted_asks (RemoveFailed receipt) asked volume other is asks = cc
+counted_asks PlanCopy asked volume other is asks = cc
+counted_asks (SealCopy copied) asked volume other is asks = cc
+counted_asks DropPlan asked volume other is asks = cc
 
 pub counted_reply : (event : Event Kept) (asked : PlainEvent) (volume : VolumeState) (plain : PlainState)
     → is_counted event ≡ true
@@ -188,6 +221,9 @@ counted_reply (JobFailed job) asked volume plain is asks = cc
 counted_reply TakeRemove asked volume plain is asks = cc
 counted_reply (RemoveDone number) asked volume plain is asks = cc
 counted_reply (RemoveFailed receipt) asked volume plain is asks = cc
+counted_reply PlanCopy asked volume plain is asks = cc
+counted_reply (SealCopy copied) asked volume plain is asks = cc
+counted_reply DropPlan asked volume plain is asks = cc
 
 pub counted_receipt : (event : Event Kept) → is_counted event ≡ true → HasItsReceipt told_receipt event
 counted_receipt (Write lba body) is = tt
@@ -203,4 +239,7 @@ counted_receipt SealCheckpoint is = tt
 counted_receipt TakeRemove is = tt
 counted_receipt (RemoveDone number) is = tt
 counted_receipt (RemoveFailed receipt) is = tt
+counted_receipt PlanCopy is = tt
+counted_receipt (SealCopy copied) is = tt
+counted_receipt DropPlan is = tt
 counted_receipt Status is = tt

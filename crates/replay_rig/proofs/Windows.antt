@@ -16,7 +16,9 @@ use Rattle.plain_disk.specs.Step.{plain_after}
 use Rattle.plain_disk.specs.Valid.{IsPlainVolume}
 use Rattle.vol_core.specs.declared.event.Event.{Event}
 use Rattle.vol_core.specs.declared.event.Event.TheVariants.{Write, Zero, Flush, Look, Release, Seal, TakeJob, JobDone, JobFailed}
-use Rattle.vol_core.specs.declared.event.Event.TheVariants.{SealCheckpoint, TakeRemove, RemoveDone, RemoveFailed, Status}
+use Rattle.vol_core.specs.declared.event.Event.TheVariants.{SealCheckpoint, TakeRemove, RemoveDone}
+use Rattle.vol_core.specs.declared.event.Event.TheVariants.{RemoveFailed, PlanCopy, SealCopy}
+use Rattle.vol_core.specs.declared.event.Event.TheVariants.{DropPlan, Status}
 use Rattle.vol_core.specs.Volume.{VolumeState}
 use Rattle.vol_core.specs.Events.{Asks}
 use Rattle.replay_rig.specs.Steps.{is_counted}
@@ -57,7 +59,7 @@ neither : (a b : Bool) → (a || b) ≡ false → (a ≡ false) × (b ≡ false)
 neither true b is = cc
 neither false b is = (refl, is)
 
-entered_keeps : (is_checkpoint : Bool) (window : WindowState)
+pub entered_keeps : (is_checkpoint : Bool) (window : WindowState)
     → KeepsUnderWay window (entered (window.last + 1) is_checkpoint window)
 entered_keeps is_checkpoint window =
     let object : OpenObject = record {
@@ -135,6 +137,9 @@ quiet_windows (JobFailed job) asked volume plain is asks valid = cc
 quiet_windows TakeRemove asked volume plain is asks valid = cc
 quiet_windows (RemoveDone number) asked volume plain is asks valid = cc
 quiet_windows (RemoveFailed receipt) asked volume plain is asks valid = cc
+quiet_windows PlanCopy asked volume plain is asks valid = cc
+quiet_windows (SealCopy copied) asked volume plain is asks valid = cc
+quiet_windows DropPlan asked volume plain is asks valid = cc
 
 -- and the removals
 pub quiet_removals : (event : Event Kept) (asked : PlainEvent) (volume : VolumeState) (plain : PlainState)
@@ -153,3 +158,6 @@ quiet_removals (JobFailed job) asked volume plain is asks = cc
 quiet_removals TakeRemove asked volume plain is asks = cc
 quiet_removals (RemoveDone number) asked volume plain is asks = cc
 quiet_removals (RemoveFailed receipt) asked volume plain is asks = cc
+quiet_removals PlanCopy asked volume plain is asks = cc
+quiet_removals (SealCopy copied) asked volume plain is asks = cc
+quiet_removals DropPlan asked volume plain is asks = cc

@@ -1,10 +1,10 @@
 ghost use Rattle.std.specs.Prelude.{IfOk};
-ghost use Rattle.replay_rig.specs.Answers.{SaysRefusal, SaysCounts};
+ghost use Rattle.replay_rig.specs.Answers.{SaysRefusal, SaysSealRefusal, SaysCounts};
 
 use batcher::Full;
 use lsvd_objstore::Receipt;
 use std::alloc::AllocError;
-use vol_core::{EntryRefusal, Reply};
+use vol_core::{EntryRefusal, Reply, SealRefusal};
 
 /// What a line is answered.
 #[derive(Drop)]
@@ -25,6 +25,10 @@ pub enum Answer {
     Failed(u64),
     /// This object was removed.
     Gone(u64),
+    /// A copy of this many sectors was planned, and they were copied.
+    Copied(u64),
+    /// The plan of a copy was given up.
+    Dropped,
     /// The counts: of the entries, the last object that was sealed, and the frontier.
     Counts {
         entries: u64,
@@ -52,9 +56,9 @@ pub enum Answer {
     },
     /// The volume does not take a request for these sectors.
     Range,
-    /// There is nothing to seal, to put or to remove.
+    /// There is nothing to seal, to put, to remove or to copy.
     Nothing,
-    /// No object was sealed: 16 objects are not acknowledged.
+    /// No object was sealed: 16 objects are not acknowledged. Or no copy was planned: the plan of one is out.
     Busy,
     /// The device failed a call of the request.
     Fault,
@@ -77,6 +81,17 @@ fn answer_of_refusal(refusal: &EntryRefusal) -> Result<Answer, AllocError>
     }
 }
 
+/// Why what was copied was not sealed, as an answer. The one error is out of memory.
+pub(crate) fn answer_of_seal(refusal: SealRefusal) -> Result<Answer, AllocError>
+    ensures { IfOk result (SaysSealRefusal refusal) }
+{
+    match refusal {
+        SealRefusal::NotPlanned => Ok(Answer::Nothing),
+        SealRefusal::Busy => Ok(Answer::Busy),
+        SealRefusal::OutOfMemory => Err(AllocError),
+    }
+}
+
 /// The answer that tells a reply of the volume to an event that hands nothing out but counts. The one error
 /// is out of memory.
 pub(crate) fn answer_of<R: Receipt>(reply: Reply<R>) -> Result<Answer, AllocError>
@@ -96,6 +111,8 @@ fn told<R: Receipt>(reply: &Reply<R>) -> Result<Answer, AllocError>
         Reply::NotEntered { why, .. } => answer_of_refusal(why),
         Reply::Sealed(number) => Ok(Answer::Sealed(*number)),
         Reply::Done(frontier) => Ok(Answer::Done(*frontier)),
+        Reply::Dropped => Ok(Answer::Dropped),
+        Reply::NotSealed { why, .. } => answer_of_seal(*why),
         Reply::Told {
             writes,
             sealed,

@@ -12,24 +12,26 @@ ghost use Rattle.replay_rig.specs.Steps.{AnswersEvent, is_counted, AnswersAsked,
 ghost use Rattle.replay_rig.specs.Steps.{FailsPut};
 ghost use Rattle.read_plan.specs.Plan.{GivesNoOther};
 ghost use Rattle.replay_rig.specs.Puts.{is_put_out, put_of};
+ghost use Rattle.gc_copier.specs.Copying.{IsCopyOf};
 ghost use Rattle.replay_rig.specs.Crash.{IsPutAs};
 ghost use Rattle.replay_rig.specs.Steps.{IsUntouched, StopsAfter, MountsKeptRig, MountsLostRig};
 ghost use Rattle.replay_rig.specs.Rig.{rig_of, owner_at, ShowsPlain, IsKeptByRig};
 
-use crate::answer::{Answer, answer_of};
+use crate::answer::{Answer, answer_of, answer_of_seal};
 use crate::crash::{
     MountedVolume, ScriptVolume, blank_disk, create_volume, land, mount_again, mount_anew,
     put_object, remove_object, stopped_device,
 };
 use crate::puts::Puts;
 use commit_slot::LOG_START;
+use gc_copier::{Copied, GcPlan, copy};
 use lsvd_base::{Body, Geometry, SECTOR_BYTES};
 use lsvd_device::{Fate, StoppedDisk};
 use lsvd_objstore::{MemReceipt, MemStore, Receipt};
 use read_plan::Plan;
 use std::alloc::{AllocError, Global};
 use std::marker::Model;
-use vol_core::{Event, Reply};
+use vol_core::{Event, Reply, SealRefusal};
 
 // The writes and syncs that a step asks for at most: those of a commit that makes first what was left of
 // another, and those of a record and of the pad before it.
@@ -48,6 +50,8 @@ pub struct Rig {
     store: MemStore,
     /// The objects under way.
     puts: Puts,
+    /// What was copied by the plan of a copy that is out.
+    copied: Option<Copied<MemReceipt>>,
     /// Whether the device was told to stop since the last mount.
     is_stopping: bool,
     /// How many lines it has answered.
@@ -61,11 +65,13 @@ impl Model for Rig {
 
     ghost use Rattle.plain_disk.specs.State.{PlainState};
     ghost use Rattle.replay_rig.specs.Rig.{rig_of, ShowsPlain};
+    ghost use Rattle.replay_rig.specs.Held.{IsHeldCopy};
 
     ghost view = { λ r. rig_of r.volume r.store r.puts.list r.is_stopping r.lines };
 
-    ghost invariant = { λ r. (plain : PlainState)
-        × ShowsPlain (rig_of r.volume r.store r.puts.list r.is_stopping r.lines) plain };
+    ghost invariant = { λ r. ((plain : PlainState)
+        × ShowsPlain (rig_of r.volume r.store r.puts.list r.is_stopping r.lines) plain)
+        × IsHeldCopy r.volume.volume.plan r.copied };
 }
 
 impl Rig {
@@ -83,6 +89,7 @@ impl Rig {
             volume,
             store,
             puts: Puts::new(alloc),
+            copied: None,
             is_stopping: false,
             lines: 0,
         })
@@ -240,6 +247,75 @@ impl Rig {
         Ok(Answer::Failed(number))
     }
 
+    /// Plans a copy, and copies what it takes out of the store.
+    pub fn plan_copy(&mut self, alloc: Global) -> Result<Answer, AllocError>
+        requires { self.old.lines < 2 ^ 40 }
+        ensures ok { IfOk result (λ answer. AnswersEvent events.PlanCopy answer self.old self.new) }
+        ensures lines { self.new.lines ≤ self.old.lines + 1 }
+    {
+        self.lines += 1;
+        let plan = match self.volume.step(Event::PlanCopy) {
+            Reply::Copying(plan) => plan,
+            reply => return answer_of(reply),
+        };
+        match copied_by(alloc, &plan, &mut self.store) {
+            Ok(copied) => {
+                self.copied = Some(copied);
+                Ok(Answer::Copied(plan.sectors()))
+            }
+            Err(error) => {
+                drop(self.volume.step(Event::DropPlan));
+                Err(error)
+            }
+        }
+    }
+
+    /// Whether the plan of a copy is out.
+    pub fn has_copy(&self) -> bool
+        ensures { (plain : PlainState) → ShowsPlain self.now plain → result ≡ is_some plain.plan }
+    {
+        self.copied.is_some()
+    }
+
+    /// Seals what was copied by the plan that is out (a condition).
+    pub fn seal_copy(&mut self) -> Result<Answer, AllocError>
+        requires lines { self.old.lines < 2 ^ 40 }
+        requires out { (plain : PlainState) → ShowsPlain self.old plain → IsTrue (is_some plain.plan) }
+        ensures ok { IfOk result (λ answer. AnswersEvent (events.SealCopy true) answer self.old self.new) }
+        ensures lines { self.new.lines ≤ self.old.lines + 1 }
+    {
+        self.lines += 1;
+        let copied = match self.copied.take() {
+            Some(copied) => copied,
+            None => return Ok(Answer::Nothing),
+        };
+        match self.volume.step(Event::SealCopy(copied)) {
+            Reply::NotSealed { copied, why } => {
+                self.copied = Some(copied);
+                answer_of_seal(why)
+            }
+            Reply::Sealed(number) => Ok(Answer::Sealed(number)),
+            reply => {
+                // A volume seals what was copied or hands it back, so this does not come.
+                drop(reply);
+                drop(self.volume.step(Event::DropPlan));
+                Err(AllocError)
+            }
+        }
+    }
+
+    /// Gives up the plan of a copy that is out (a condition).
+    pub fn drop_plan(&mut self) -> Result<Answer, AllocError>
+        requires lines { self.old.lines < 2 ^ 40 }
+        requires out { (plain : PlainState) → ShowsPlain self.old plain → IsTrue (is_some plain.plan) }
+        ensures ok { IfOk result (λ answer. AnswersEvent events.DropPlan answer self.old self.new) }
+        ensures lines { self.new.lines ≤ self.old.lines + 1 }
+    {
+        self.lines += 1;
+        self.copied = None;
+        answer_of(self.volume.step(Event::DropPlan))
+    }
+
     /// Asks for the counts.
     pub fn status(&mut self) -> Result<Answer, AllocError>
         requires { self.old.lines < 2 ^ 40 }
@@ -363,6 +439,21 @@ fn fetched(
     Ok(bytes)
 }
 
+// What the plan of a copy takes. The one error is out of memory: a store in memory fails no call.
+fn copied_by(
+    alloc: Global,
+    plan: &GcPlan<MemReceipt>,
+    store: &mut MemStore,
+) -> Result<Copied<MemReceipt>, AllocError>
+    ensures copied { IfOk result (IsCopyOf plan.now) }
+    ensures store { store.new ≡ store.old }
+{
+    match copy(alloc, plan, store) {
+        Ok(copied) => Ok(copied),
+        Err(_) => Err(AllocError),
+    }
+}
+
 // Puts the object of this number, whose put is out (a condition), into the store. The one error is out of
 // memory, after which nothing changed.
 fn put_out(
@@ -396,6 +487,7 @@ fn make_room(volume: &mut ScriptVolume, event: &Event<MemReceipt>) -> Result<(),
 fn go_on(alloc: Global, mounted: MountedVolume, store: MemStore, lines: u64) -> (Rig, Answer)
     requires shows { (plain : PlainState)
         × ShowsPlain (rig_of mounted.volume store [] false (lines + 1)) plain }
+    requires plan { mounted.volume.volume.plan ≡ None }
     requires lines { lines < 2 ^ 40 }
     ensures rig { result.0 ≡ rig_of mounted.volume store [] false (lines + 1) }
     ensures answer { result.1 ≡ Answer.Mounted mounted.entries mounted.number }
@@ -408,6 +500,7 @@ fn go_on(alloc: Global, mounted: MountedVolume, store: MemStore, lines: u64) -> 
         volume: mounted.volume,
         store,
         puts: Puts::new(alloc),
+        copied: None,
         is_stopping: false,
         lines: lines + 1,
     };

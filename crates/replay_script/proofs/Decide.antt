@@ -16,7 +16,8 @@ use Rattle.replay_script.specs.Grammar.{BeginsAs, CountsAs}
 use Rattle.replay_script.specs.Grammar.{IsUnknown, HasWrongWordCount, IsMisspelt, Spell, SpellNone, AreRefusedAs}
 use Rattle.replay_script.specs.declared.command.Command.{Command}
 use Rattle.replay_script.specs.declared.command.Command.TheVariants.{New, Write, Zero, Read, Flush, Seal, TakeJob, JobDone}
-use Rattle.replay_script.specs.declared.command.Command.TheVariants.{JobFailed, SealCheckpoint, Remove, Status, Stop}
+use Rattle.replay_script.specs.declared.command.Command.TheVariants.{JobFailed, SealCheckpoint, Remove, PlanCopy, SealCopy}
+use Rattle.replay_script.specs.declared.command.Command.TheVariants.{DropPlan, Status, Stop}
 use Rattle.replay_script.specs.declared.command.Command.TheVariants.{CrashKeep, CrashLost}
 use Rattle.replay_script.specs.declared.error.LineError.TheVariants.{UnknownCommand, WordCount, Form}
 use Rattle.replay_script.proofs.Numbers.{decided, decide_number, decide_byte, hexadecimal_injective}
@@ -94,6 +95,9 @@ one_spelling (JobFailed number) (JobFailed number') e fits_a fits_b =
     ap JobFailed (decimal_injective number number' fits_a fits_b (cc))
 one_spelling SealCheckpoint SealCheckpoint e fits_a fits_b = refl
 one_spelling Remove Remove e fits_a fits_b = refl
+one_spelling PlanCopy PlanCopy e fits_a fits_b = refl
+one_spelling SealCopy SealCopy e fits_a fits_b = refl
+one_spelling DropPlan DropPlan e fits_a fits_b = refl
 one_spelling Status Status e fits_a fits_b = refl
 one_spelling (Stop calls) (Stop calls') e fits_a fits_b = ap Stop (decimal_injective calls calls' fits_a fits_b (cc))
 one_spelling (CrashKeep device objects) (CrashKeep device' objects') e fits_a fits_b = cc
@@ -292,6 +296,24 @@ decide_remove words = elim (decide_alone (codes "k") words) [
   | inr other ↦ inr (λ spell. other spell.0)
 ]
 
+decide_plan_copy : (words : List (List ℕ)) → IsSpelled words ⊎ ¬ Spell words PlanCopy
+decide_plan_copy words = elim (decide_alone (codes "g") words) [
+  | inl e ↦ inl (PlanCopy, (e, tt))
+  | inr other ↦ inr (λ spell. other spell.0)
+]
+
+decide_seal_copy : (words : List (List ℕ)) → IsSpelled words ⊎ ¬ Spell words SealCopy
+decide_seal_copy words = elim (decide_alone (codes "G") words) [
+  | inl e ↦ inl (SealCopy, (e, tt))
+  | inr other ↦ inr (λ spell. other spell.0)
+]
+
+decide_drop_plan : (words : List (List ℕ)) → IsSpelled words ⊎ ¬ Spell words DropPlan
+decide_drop_plan words = elim (decide_alone (codes "q") words) [
+  | inl e ↦ inl (DropPlan, (e, tt))
+  | inr other ↦ inr (λ spell. other spell.0)
+]
+
 decide_done : (words : List (List ℕ)) → IsSpelled words ⊎ ((number : ℕ) → ¬ Spell words (JobDone number))
 decide_done words = elim (decide_with_number (codes "d") words) [
   | inl found ↦ inl (JobDone found.0, found.1)
@@ -351,6 +373,9 @@ record SpellNoKind (words : List (List ℕ)) : Type 0 where
   no_failed : (number : ℕ) → ¬ Spell words (JobFailed number)
   no_checkpoint : ¬ Spell words SealCheckpoint
   no_remove : ¬ Spell words Remove
+  no_plan_copy : ¬ Spell words PlanCopy
+  no_seal_copy : ¬ Spell words SealCopy
+  no_drop_plan : ¬ Spell words DropPlan
   no_status : ¬ Spell words Status
   no_stop : (calls : ℕ) → ¬ Spell words (Stop calls)
   no_crash_keep : (device objects : List ℕ) → ¬ Spell words (CrashKeep device objects)
@@ -369,6 +394,9 @@ no_command words other (JobDone number) = other.no_done number
 no_command words other (JobFailed number) = other.no_failed number
 no_command words other SealCheckpoint = other.no_checkpoint
 no_command words other Remove = other.no_remove
+no_command words other PlanCopy = other.no_plan_copy
+no_command words other SealCopy = other.no_seal_copy
+no_command words other DropPlan = other.no_drop_plan
 no_command words other Status = other.no_status
 no_command words other (Stop calls) = other.no_stop calls
 no_command words other (CrashKeep device objects) = other.no_crash_keep device objects
@@ -388,6 +416,9 @@ decide_spelling words =
     or_next (decide_failed words) (λ no_failed.
     or_next (decide_checkpoint words) (λ no_checkpoint.
     or_next (decide_remove words) (λ no_remove.
+    or_next (decide_plan_copy words) (λ no_plan_copy.
+    or_next (decide_seal_copy words) (λ no_seal_copy.
+    or_next (decide_drop_plan words) (λ no_drop_plan.
     or_next (decide_status words) (λ no_status.
     or_next (decide_stop words) (λ no_stop.
     or_next (decide_crash_keep words) (λ no_crash_keep.
@@ -404,11 +435,14 @@ decide_spelling words =
       no_failed = no_failed;
       no_checkpoint = no_checkpoint;
       no_remove = no_remove;
+      no_plan_copy = no_plan_copy;
+      no_seal_copy = no_seal_copy;
+      no_drop_plan = no_drop_plan;
       no_status = no_status;
       no_stop = no_stop;
       no_crash_keep = no_crash_keep;
       no_crash_lost = no_crash_lost;
-    })))))))))))))))))
+    }))))))))))))))))))))
 
 -- where its numbers make no geometry within the limits, they spell no command
 no_new : (words : List (List ℕ)) (g : Geometry) → words ≡ command_spelling (New g) → SizesFit g
@@ -468,6 +502,9 @@ begins_first word words (JobDone number) e = sym (ap first_word e)
 begins_first word words (JobFailed number) e = sym (ap first_word e)
 begins_first word words SealCheckpoint e = sym (ap first_word e)
 begins_first word words Remove e = sym (ap first_word e)
+begins_first word words PlanCopy e = sym (ap first_word e)
+begins_first word words SealCopy e = sym (ap first_word e)
+begins_first word words DropPlan e = sym (ap first_word e)
 begins_first word words Status e = sym (ap first_word e)
 begins_first word words (Stop calls) e = sym (ap first_word e)
 begins_first word words (CrashKeep device objects) e = sym (ap first_word e)
@@ -486,6 +523,9 @@ spelling_begins (JobDone number) = refl
 spelling_begins (JobFailed number) = refl
 spelling_begins SealCheckpoint = refl
 spelling_begins Remove = refl
+spelling_begins PlanCopy = refl
+spelling_begins SealCopy = refl
+spelling_begins DropPlan = refl
 spelling_begins Status = refl
 spelling_begins (Stop calls) = refl
 spelling_begins (CrashKeep device objects) = refl
@@ -520,6 +560,9 @@ count_by_name (JobDone number) = refl
 count_by_name (JobFailed number) = refl
 count_by_name SealCheckpoint = refl
 count_by_name Remove = refl
+count_by_name PlanCopy = refl
+count_by_name SealCopy = refl
+count_by_name DropPlan = refl
 count_by_name Status = refl
 count_by_name (Stop calls) = refl
 count_by_name (CrashKeep device objects) = refl
@@ -577,6 +620,9 @@ pub record IsNoName (word : List ℕ) : Type 0 where
   pub no_failed : ¬ (word ≡ codes "x")
   pub no_checkpoint : ¬ (word ≡ codes "c")
   pub no_remove : ¬ (word ≡ codes "k")
+  pub no_plan_copy : ¬ (word ≡ codes "g")
+  pub no_seal_copy : ¬ (word ≡ codes "G")
+  pub no_drop_plan : ¬ (word ≡ codes "q")
   pub no_status : ¬ (word ≡ codes "i")
   pub no_stop : ¬ (word ≡ codes "stop")
   pub no_crash : ¬ (word ≡ codes "crash")
@@ -595,6 +641,9 @@ no_name word words other (JobDone number) e = other.no_done (begins_first word w
 no_name word words other (JobFailed number) e = other.no_failed (begins_first word words (JobFailed number) e)
 no_name word words other SealCheckpoint e = other.no_checkpoint (begins_first word words SealCheckpoint e)
 no_name word words other Remove e = other.no_remove (begins_first word words Remove e)
+no_name word words other PlanCopy e = other.no_plan_copy (begins_first word words PlanCopy e)
+no_name word words other SealCopy e = other.no_seal_copy (begins_first word words SealCopy e)
+no_name word words other DropPlan e = other.no_drop_plan (begins_first word words DropPlan e)
 no_name word words other Status e = other.no_status (begins_first word words Status e)
 no_name word words other (Stop calls) e = other.no_stop (begins_first word words (Stop calls) e)
 no_name word words other (CrashKeep device objects) e = other.no_crash (begins_first word words (CrashKeep device objects) e)
@@ -688,6 +737,9 @@ decide_name word words =
     or_next (decide_first (codes "x") word words (JobFailed 0) refl) (λ no_failed.
     or_next (decide_first (codes "c") word words SealCheckpoint refl) (λ no_checkpoint.
     or_next (decide_first (codes "k") word words Remove refl) (λ no_remove.
+    or_next (decide_first (codes "g") word words PlanCopy refl) (λ no_plan_copy.
+    or_next (decide_first (codes "G") word words SealCopy refl) (λ no_seal_copy.
+    or_next (decide_first (codes "q") word words DropPlan refl) (λ no_drop_plan.
     or_next (decide_first (codes "i") word words Status refl) (λ no_status.
     or_next (decide_first (codes "stop") word words (Stop 0) refl) (λ no_stop.
     elim (decided (bytes_eq word (codes "crash")) (bytes_eq-Decides word (codes "crash"))) [
@@ -704,11 +756,14 @@ decide_name word words =
         no_failed = no_failed;
         no_checkpoint = no_checkpoint;
         no_remove = no_remove;
+        no_plan_copy = no_plan_copy;
+        no_seal_copy = no_seal_copy;
+        no_drop_plan = no_drop_plan;
         no_status = no_status;
         no_stop = no_stop;
         no_crash = no_crash;
       }))
-    ])))))))))))))
+    ]))))))))))))))))
 
 decide_words : (words : List (List ℕ)) → (words ≡ [] → ⊥) → IsJudged words
 decide_words [] some = absurd (some refl)

@@ -7,7 +7,8 @@ use Rattle.replay_script.specs.Grammar.{command_spelling, command_name, BeginAs,
 use Rattle.replay_script.specs.Names.{BeginWith, words_of_name, word_count_of}
 use Rattle.replay_script.specs.declared.command.Command.{Command}
 use Rattle.replay_script.specs.declared.command.Command.TheVariants.{New, Write, Zero, Read, Flush, Seal, TakeJob, JobDone}
-use Rattle.replay_script.specs.declared.command.Command.TheVariants.{JobFailed, SealCheckpoint, Remove, Status, Stop}
+use Rattle.replay_script.specs.declared.command.Command.TheVariants.{JobFailed, SealCheckpoint, Remove, PlanCopy, SealCopy}
+use Rattle.replay_script.specs.declared.command.Command.TheVariants.{DropPlan, Status, Stop}
 use Rattle.replay_script.specs.declared.command.Command.TheVariants.{CrashKeep, CrashLost}
 use Rattle.replay_script.specs.declared.command.Name.{Name}
 use Rattle.replay_script.specs.declared.command.Name.TheVariants as names
@@ -39,6 +40,9 @@ some_command names.JobDone = JobDone 0
 some_command names.JobFailed = JobFailed 0
 some_command names.SealCheckpoint = SealCheckpoint
 some_command names.Remove = Remove
+some_command names.PlanCopy = PlanCopy
+some_command names.SealCopy = SealCopy
+some_command names.DropPlan = DropPlan
 some_command names.Status = Status
 some_command names.Stop = Stop 0
 some_command names.CrashKeep = CrashKeep [] []
@@ -58,6 +62,9 @@ command_name-some_command names.JobDone = (refl, refl)
 command_name-some_command names.JobFailed = (refl, refl)
 command_name-some_command names.SealCheckpoint = (refl, refl)
 command_name-some_command names.Remove = (refl, refl)
+command_name-some_command names.PlanCopy = (refl, refl)
+command_name-some_command names.SealCopy = (refl, refl)
+command_name-some_command names.DropPlan = (refl, refl)
 command_name-some_command names.Status = (refl, refl)
 command_name-some_command names.Stop = (refl, refl)
 command_name-some_command names.CrashKeep = (refl, refl)

@@ -7,7 +7,8 @@ use Rattle.lsvd_base.specs.Limits.{is_within_limits}
 use Rattle.lsvd_base.specs.declared.geometry.Geometry.{Geometry}
 use Rattle.replay_script.specs.declared.command.Command.{Command}
 use Rattle.replay_script.specs.declared.command.Command.TheVariants.{New, Write, Zero, Read, Flush, Seal, TakeJob, JobDone}
-use Rattle.replay_script.specs.declared.command.Command.TheVariants.{JobFailed, SealCheckpoint, Remove, Status, Stop}
+use Rattle.replay_script.specs.declared.command.Command.TheVariants.{JobFailed, SealCheckpoint, Remove, PlanCopy, SealCopy}
+use Rattle.replay_script.specs.declared.command.Command.TheVariants.{DropPlan, Status, Stop}
 use Rattle.replay_script.specs.declared.command.Command.TheVariants.{CrashKeep, CrashLost}
 use Rattle.replay_script.specs.declared.error.LineError.{LineError}
 use Rattle.replay_script.specs.declared.error.LineError.TheVariants.{UnknownCommand, WordCount, Form, OutOfMemory}
@@ -42,6 +43,9 @@ command_spelling (JobDone number) = codes "d" ∷ decimal number ∷ []
 command_spelling (JobFailed number) = codes "x" ∷ decimal number ∷ []
 command_spelling SealCheckpoint = codes "c" ∷ []
 command_spelling Remove = codes "k" ∷ []
+command_spelling PlanCopy = codes "g" ∷ []
+command_spelling SealCopy = codes "G" ∷ []
+command_spelling DropPlan = codes "q" ∷ []
 command_spelling Status = codes "i" ∷ []
 command_spelling (Stop calls) = codes "stop" ∷ decimal calls ∷ []
 command_spelling (CrashKeep device objects) = codes "crash" ∷ codes "keep" ∷ device ∷ objects ∷ []
@@ -65,6 +69,9 @@ Fits (JobDone number) = number < 2 ^ 64
 Fits (JobFailed number) = number < 2 ^ 64
 Fits SealCheckpoint = Unit {0}
 Fits Remove = Unit {0}
+Fits PlanCopy = Unit {0}
+Fits SealCopy = Unit {0}
+Fits DropPlan = Unit {0}
 Fits Status = Unit {0}
 Fits (Stop calls) = calls < 2 ^ 64
 Fits (CrashKeep device objects) = Unit {0}
@@ -88,6 +95,9 @@ command_name (JobDone number) = codes "d" ∷ []
 command_name (JobFailed number) = codes "x" ∷ []
 command_name SealCheckpoint = codes "c" ∷ []
 command_name Remove = codes "k" ∷ []
+command_name PlanCopy = codes "g" ∷ []
+command_name SealCopy = codes "G" ∷ []
+command_name DropPlan = codes "q" ∷ []
 command_name Status = codes "i" ∷ []
 command_name (Stop calls) = codes "stop" ∷ []
 command_name (CrashKeep device objects) = codes "crash" ∷ codes "keep" ∷ []

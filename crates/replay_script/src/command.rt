@@ -35,6 +35,12 @@ pub enum Command {
     SealCheckpoint,
     /// `k`: removes the lowest object that may be removed.
     Remove,
+    /// `g`: plans a copy of sectors out of objects that few sectors are live in, and copies them.
+    PlanCopy,
+    /// `G`: seals what was copied.
+    SealCopy,
+    /// `q`: gives the plan of a copy up.
+    DropPlan,
     /// `i`: asks for the counts.
     Status,
     /// `stop N`: lets the device pass N calls more, and fail each later one.
@@ -77,6 +83,9 @@ enum Name {
     JobFailed,
     SealCheckpoint,
     Remove,
+    PlanCopy,
+    SealCopy,
+    DropPlan,
     Status,
     Stop,
     CrashKeep,
@@ -135,6 +144,12 @@ fn name_from(first: &[u8], rest: &[&[u8]]) -> Option<Name>
         Some(Name::SealCheckpoint)
     } else if is_word(first, b"k") {
         Some(Name::Remove)
+    } else if is_word(first, b"g") {
+        Some(Name::PlanCopy)
+    } else if is_word(first, b"G") {
+        Some(Name::SealCopy)
+    } else if is_word(first, b"q") {
+        Some(Name::DropPlan)
     } else if is_word(first, b"i") {
         Some(Name::Status)
     } else if is_word(first, b"stop") {
@@ -173,6 +188,7 @@ fn word_count(name: Name) -> usize
     match name {
         Name::Flush | Name::Seal | Name::TakeJob => 1,
         Name::SealCheckpoint | Name::Remove | Name::Status => 1,
+        Name::PlanCopy | Name::SealCopy | Name::DropPlan => 1,
         Name::JobDone | Name::JobFailed | Name::Stop => 2,
         Name::Zero | Name::Read => 3,
         Name::Write | Name::CrashKeep | Name::CrashLost => 4,
@@ -199,6 +215,9 @@ fn form_of(alloc: Global, name: Name, words: &[&[u8]]) -> Result<Option<Command>
         Name::JobFailed => job_failed_of(words[1]),
         Name::SealCheckpoint => Some(Command::SealCheckpoint),
         Name::Remove => Some(Command::Remove),
+        Name::PlanCopy => Some(Command::PlanCopy),
+        Name::SealCopy => Some(Command::SealCopy),
+        Name::DropPlan => Some(Command::DropPlan),
         Name::Status => Some(Command::Status),
         Name::Stop => stop_of(words[1]),
         Name::CrashKeep => Some(crash_keep_of(alloc, words[2], words[3])?),

@@ -1,6 +1,6 @@
 -- A script has one transcript.
 use Rattle.std.proofs.Common.{◌≡◌, ℕ, ◌+◌, ◌*◌, List, [], ◌∷◌, ◌++◌, replicate, refl, sym, ◌∙◌, ap, subst, inl, inr, arith}
-use Rattle.std.specs.Prelude.{Some, None}
+use Rattle.std.specs.Prelude.{Some, None, true}
 use Rattle.plain_disk.specs.State.{PlainState}
 use Rattle.plain_disk.specs.Step.{plain_reply}
 use Rattle.plain_disk.specs.declared.event.PlainEvent.{PlainEvent}
@@ -12,8 +12,8 @@ use Rattle.plain_disk.specs.declared.event.PlainReply.TheVariants.{EntriesFull, 
 use Rattle.plain_disk.specs.declared.event.PlainReply.TheVariants.{Dropped}
 use Rattle.replay_script.specs.declared.command.Command.{Command}
 use Rattle.replay_script.specs.declared.command.Command.TheVariants.{New, Write, Zero, Read, Flush, Seal, TakeJob, JobDone}
-use Rattle.replay_script.specs.declared.command.Command.TheVariants.{JobFailed, SealCheckpoint, Remove, Status, Stop}
-use Rattle.replay_script.specs.declared.command.Command.TheVariants.{CrashKeep, CrashLost}
+use Rattle.replay_script.specs.declared.command.Command.TheVariants.{JobFailed, SealCheckpoint, Remove, PlanCopy, SealCopy}
+use Rattle.replay_script.specs.declared.command.Command.TheVariants.{DropPlan, Status, Stop, CrashKeep, CrashLost}
 use Rattle.replay_script.specs.Grammar.{lines_of}
 use Rattle.replay_script.proofs.Decide.{one_command, unknown_unspelled, miscounted_unspelled, misspelt_unspelled}
 use Rattle.replay_script.proofs.Decide.{unknown_or_miscounted, unknown_or_misspelt, miscounted_or_misspelt}
@@ -72,6 +72,9 @@ one_answer None (JobDone number) a b p q s t = absurd s
 one_answer None (JobFailed number) a b p q s t = absurd s
 one_answer None SealCheckpoint a b p q s t = absurd s
 one_answer None Remove a b p q s t = absurd s
+one_answer None PlanCopy a b p q s t = absurd s
+one_answer None SealCopy a b p q s t = absurd s
+one_answer None DropPlan a b p q s t = absurd s
 one_answer None Status a b p q s t = absurd s
 one_answer None (Stop calls) a b p q s t = absurd s
 one_answer None (CrashKeep device objects) a b p q s t = absurd s
@@ -89,6 +92,9 @@ one_answer (Some plain) (JobDone number) a b p q s t = one_step plain (events.Jo
 one_answer (Some plain) (JobFailed number) a b p q s t = (s.1 ∙ sym t.1, s.2 ∙ sym t.2)
 one_answer (Some plain) SealCheckpoint a b p q s t = one_step plain events.SealCheckpoint a b p q s t
 one_answer (Some plain) Remove a b p q s t = (one_telling (plain_reply plain events.TakeRemove) a b s.0 t.0, s.1 ∙ sym t.1)
+one_answer (Some plain) PlanCopy a b p q s t = one_step plain events.PlanCopy a b p q s t
+one_answer (Some plain) SealCopy a b p q s t = one_step plain (events.SealCopy true) a b p q s.1 t.1
+one_answer (Some plain) DropPlan a b p q s t = one_step plain events.DropPlan a b p q s.1 t.1
 one_answer (Some plain) Status a b p q s t = one_step plain events.Status a b p q s t
 one_answer (Some plain) (Stop calls) a b p q s t = (s.1 ∙ sym t.1, s.2 ∙ sym t.2)
 one_answer (Some plain) (CrashKeep device objects) a b p q s t = (s.1.0 ∙ sym t.1.0, s.1.1 ∙ sym t.1.1)
@@ -115,6 +121,9 @@ answered_allowed None (JobDone number) text next s = s
 answered_allowed None (JobFailed number) text next s = s
 answered_allowed None SealCheckpoint text next s = s
 answered_allowed None Remove text next s = s
+answered_allowed None PlanCopy text next s = s
+answered_allowed None SealCopy text next s = s
+answered_allowed None DropPlan text next s = s
 answered_allowed None Status text next s = s
 answered_allowed None (Stop calls) text next s = s
 answered_allowed None (CrashKeep device objects) text next s = s
@@ -130,6 +139,9 @@ answered_allowed (Some plain) (JobDone number) text next s = s.0
 answered_allowed (Some plain) (JobFailed number) text next s = s.0
 answered_allowed (Some plain) SealCheckpoint text next s = tt
 answered_allowed (Some plain) Remove text next s = tt
+answered_allowed (Some plain) PlanCopy text next s = tt
+answered_allowed (Some plain) SealCopy text next s = s.0
+answered_allowed (Some plain) DropPlan text next s = s.0
 answered_allowed (Some plain) Status text next s = tt
 answered_allowed (Some plain) (Stop calls) text next s = s.0
 answered_allowed (Some plain) (CrashKeep device objects) text next s = tt
@@ -149,6 +161,9 @@ answered_fits (Some plain) (JobDone number) text next s = tt
 answered_fits (Some plain) (JobFailed number) text next s = tt
 answered_fits (Some plain) SealCheckpoint text next s = tt
 answered_fits (Some plain) Remove text next s = tt
+answered_fits (Some plain) PlanCopy text next s = tt
+answered_fits (Some plain) SealCopy text next s = tt
+answered_fits (Some plain) DropPlan text next s = tt
 answered_fits (Some plain) Status text next s = tt
 answered_fits (Some plain) (Stop calls) text next s = tt
 answered_fits (Some plain) (CrashKeep device objects) text next s = s.0

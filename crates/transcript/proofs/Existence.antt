@@ -1,6 +1,6 @@
 -- Each script has a transcript.
 use Rattle.std.proofs.Common.{◌≡◌, ℕ, ◌+◌, ◌*◌, ◌<◌, ◌≤◌, ◌^◌, ◌⊎◌, List, [], ◌∷◌, ◌++◌, length, replicate, refl, inl, inr}
-use Rattle.std.specs.Prelude.{Bool, true, false, Some, None, codes, decimal}
+use Rattle.std.specs.Prelude.{Bool, true, false, Some, None, is_some, codes, decimal}
 use Rattle.std.proofs.lemmas.Bool.{cases_lt}
 use Rattle.lsvd_device.specs.Calls.{Fuse}
 use Rattle.upload_window.specs.Window.{is_started}
@@ -11,8 +11,8 @@ use Rattle.plain_disk.specs.declared.event.PlainEvent.{PlainEvent}
 use Rattle.plain_disk.specs.declared.event.PlainEvent.TheVariants as events
 use Rattle.replay_script.specs.declared.command.Command.{Command}
 use Rattle.replay_script.specs.declared.command.Command.TheVariants.{New, Write, Zero, Read, Flush, Seal, TakeJob, JobDone}
-use Rattle.replay_script.specs.declared.command.Command.TheVariants.{JobFailed, SealCheckpoint, Remove, Status, Stop}
-use Rattle.replay_script.specs.declared.command.Command.TheVariants.{CrashKeep, CrashLost}
+use Rattle.replay_script.specs.declared.command.Command.TheVariants.{JobFailed, SealCheckpoint, Remove, PlanCopy, SealCopy}
+use Rattle.replay_script.specs.declared.command.Command.TheVariants.{DropPlan, Status, Stop, CrashKeep, CrashLost}
 use Rattle.replay_script.specs.Grammar.{lines_of, SpellsCommand, IsUnknown, HasWrongWordCount, IsMisspelt}
 use Rattle.replay_script.proofs.Decide.{judge_line}
 use Rattle.transcript.specs.declared.reason.LineReason.{LineReason}
@@ -65,6 +65,18 @@ failed_answer plain number true is =
     inl (codes "failed " ++ decimal number, Some (plain_after (events.JobFailed (Some number)) plain), (is, refl, refl))
 failed_answer plain number false is = inr (inl (λ started. cc (is, started)))
 
+-- what was copied is sealed, where its plan is out
+sealed_answer : (plain : PlainState) (b : Bool) → is_some plain.plan ≡ b
+    → HasAnswer (Some plain) SealCopy ⊎ IsUnfitAtAll (Some plain) SealCopy
+sealed_answer plain true is = let step = some_step plain (events.SealCopy true) tt in inl (step.0, step.1, (is, step.2))
+sealed_answer plain false is = inr (inl (λ out. cc (is, out)))
+
+-- or the plan is given up
+dropped_answer : (plain : PlainState) (b : Bool) → is_some plain.plan ≡ b
+    → HasAnswer (Some plain) DropPlan ⊎ IsUnfitAtAll (Some plain) DropPlan
+dropped_answer plain true is = let step = some_step plain events.DropPlan tt in inl (step.0, step.1, (is, step.2))
+dropped_answer plain false is = inr (inl (λ out. cc (is, out)))
+
 -- the device is told to stop, where it was not
 stop_answer : (plain : PlainState) (calls : ℕ) (left : Fuse) → plain.cache.left ≡ left
     → HasAnswer (Some plain) (Stop calls) ⊎ IsUnfitAtAll (Some plain) (Stop calls)
@@ -109,6 +121,9 @@ some_answer None (JobDone number) = inr (inl (λ h. h))
 some_answer None (JobFailed number) = inr (inl (λ h. h))
 some_answer None SealCheckpoint = inr (inl (λ h. h))
 some_answer None Remove = inr (inl (λ h. h))
+some_answer None PlanCopy = inr (inl (λ h. h))
+some_answer None SealCopy = inr (inl (λ h. h))
+some_answer None DropPlan = inr (inl (λ h. h))
 some_answer None Status = inr (inl (λ h. h))
 some_answer None (Stop calls) = inr (inl (λ h. h))
 some_answer None (CrashKeep device objects) = inr (inl (λ h. h))
@@ -124,6 +139,9 @@ some_answer (Some plain) (JobDone number) = done_answer plain number (is_started
 some_answer (Some plain) (JobFailed number) = failed_answer plain number (is_started number plain.window.objects) refl
 some_answer (Some plain) SealCheckpoint = inl (some_step plain events.SealCheckpoint tt)
 some_answer (Some plain) Remove = inl (some_removal plain)
+some_answer (Some plain) PlanCopy = inl (some_step plain events.PlanCopy tt)
+some_answer (Some plain) SealCopy = sealed_answer plain (is_some plain.plan) refl
+some_answer (Some plain) DropPlan = dropped_answer plain (is_some plain.plan) refl
 some_answer (Some plain) Status = inl (some_step plain events.Status tt)
 some_answer (Some plain) (Stop calls) = stop_answer plain calls plain.cache.left refl
 some_answer (Some plain) (CrashKeep device objects) =

@@ -1,6 +1,6 @@
 -- What holds of the volume in each state that a script reaches.
 use Rattle.std.proofs.Common.{◌≡◌, ℕ, ◌+◌, ◌*◌, List, [], ◌∷◌, length, replicate, refl, subst, sym, ◌∙◌, inl, inr}
-use Rattle.std.specs.Prelude.{Some, None, Bool}
+use Rattle.std.specs.Prelude.{Some, None, Bool, true}
 use Rattle.plain_disk.specs.State.{PlainState}
 use Rattle.plain_disk.specs.Stops.{mounted_kept, mounted_lost}
 use Rattle.plain_disk.specs.Step.{plain_reply, plain_after}
@@ -14,8 +14,8 @@ use Rattle.plain_disk.proofs.MountLemmas.{mounts_keep}
 use Rattle.plain_disk.proofs.StopLemmas.{stops_keep, stop_keeps_acknowledged}
 use Rattle.replay_script.specs.declared.command.Command.{Command}
 use Rattle.replay_script.specs.declared.command.Command.TheVariants.{New, Write, Zero, Read, Flush, Seal, TakeJob, JobDone}
-use Rattle.replay_script.specs.declared.command.Command.TheVariants.{JobFailed, SealCheckpoint, Remove, Status, Stop}
-use Rattle.replay_script.specs.declared.command.Command.TheVariants.{CrashKeep, CrashLost}
+use Rattle.replay_script.specs.declared.command.Command.TheVariants.{JobFailed, SealCheckpoint, Remove, PlanCopy, SealCopy}
+use Rattle.replay_script.specs.declared.command.Command.TheVariants.{DropPlan, Status, Stop, CrashKeep, CrashLost}
 use Rattle.replay_script.specs.Grammar.{lines_of, Fits}
 use Rattle.transcript.specs.Letters.{kept_by, landed_by}
 use Rattle.transcript.specs.Answers.{State, released_by, removed_by, Answers}
@@ -90,6 +90,9 @@ answer_keeps None (JobDone number) text next fits s h = absurd s
 answer_keeps None (JobFailed number) text next fits s h = absurd s
 answer_keeps None SealCheckpoint text next fits s h = absurd s
 answer_keeps None Remove text next fits s h = absurd s
+answer_keeps None PlanCopy text next fits s h = absurd s
+answer_keeps None SealCopy text next fits s h = absurd s
+answer_keeps None DropPlan text next fits s h = absurd s
 answer_keeps None Status text next fits s h = absurd s
 answer_keeps None (Stop calls) text next fits s h = absurd s
 answer_keeps None (CrashKeep device objects) text next fits s h = absurd s
@@ -111,6 +114,9 @@ answer_keeps (Some plain) (JobFailed number) text next fits s h =
     along next _ s.2 (step_keeps plain (events.JobFailed (Some number)) tt h)
 answer_keeps (Some plain) SealCheckpoint text next fits s h = along next _ s.1 (step_keeps plain events.SealCheckpoint tt h)
 answer_keeps (Some plain) Remove text next fits s h = along next _ s.1 (removal_keeps plain h)
+answer_keeps (Some plain) PlanCopy text next fits s h = along next _ s.1 (step_keeps plain events.PlanCopy tt h)
+answer_keeps (Some plain) SealCopy text next fits s h = along next _ s.1.1 (step_keeps plain (events.SealCopy true) tt h)
+answer_keeps (Some plain) DropPlan text next fits s h = along next _ s.1.1 (step_keeps plain events.DropPlan tt h)
 answer_keeps (Some plain) Status text next fits s h = along next _ s.1 (step_keeps plain events.Status tt h)
 answer_keeps (Some plain) (Stop calls) text next fits s h = along next _ s.2 (record {
   volume = stops_keep plain calls h.volume;

@@ -1,5 +1,6 @@
 -- Contract: which text answers a command, and what it leaves of the plain volume.
-use Rattle.std.specs.Prelude.{◌≡◌, ℕ, ◌*◌, Option, Some, None, IsTrue, List, ◌++◌, length, replicate, codes, decimal}
+use Rattle.std.specs.Prelude.{◌≡◌, ℕ, ◌*◌, Option, Some, None, is_some, true, IsTrue, List, ◌++◌, length, replicate, codes}
+use Rattle.std.specs.Prelude.{decimal}
 use Rattle.object_stream.specs.Landed.{Numbers}
 use Rattle.upload_window.specs.Window.{is_started}
 use Rattle.plain_disk.specs.declared.event.PlainEvent.{PlainEvent}
@@ -103,8 +104,8 @@ AnswersLostMount plain objects = Mounts (landed_by plain objects) plain (mounted
 
 -- ---- commands
 
--- The volume allows the command: `new` comes only first, a put is done or fails only where it was begun, and the device is told
--- to stop only where it was not.
+-- The volume allows the command: `new` comes only first, a put is done or fails only where it was begun, a copy is sealed or
+-- given up only where its plan is out, and the device is told to stop only where it was not.
 abbrev pub AllowsCommand : PlainState → Command → Type 0
 AllowsCommand plain (commands.New g) = ⊥
 AllowsCommand plain (commands.Write lba sectors byte) = Unit {0}
@@ -117,6 +118,9 @@ AllowsCommand plain (commands.JobDone number) = IsTrue (is_started number plain.
 AllowsCommand plain (commands.JobFailed number) = IsTrue (is_started number plain.window.objects)
 AllowsCommand plain commands.SealCheckpoint = Unit {0}
 AllowsCommand plain commands.Remove = Unit {0}
+AllowsCommand plain commands.PlanCopy = Unit {0}
+AllowsCommand plain commands.SealCopy = IsTrue (is_some plain.plan)
+AllowsCommand plain commands.DropPlan = IsTrue (is_some plain.plan)
 AllowsCommand plain commands.Status = Unit {0}
 AllowsCommand plain (commands.Stop calls) = plain.cache.left ≡ None
 AllowsCommand plain (commands.CrashKeep device objects) = Unit {0}
@@ -135,6 +139,9 @@ IsNew (commands.JobDone number) = ⊥
 IsNew (commands.JobFailed number) = ⊥
 IsNew commands.SealCheckpoint = ⊥
 IsNew commands.Remove = ⊥
+IsNew commands.PlanCopy = ⊥
+IsNew commands.SealCopy = ⊥
+IsNew commands.DropPlan = ⊥
 IsNew commands.Status = ⊥
 IsNew (commands.Stop calls) = ⊥
 IsNew (commands.CrashKeep device objects) = ⊥
@@ -157,6 +164,9 @@ FitsVolume plain (commands.JobDone number) = Unit {0}
 FitsVolume plain (commands.JobFailed number) = Unit {0}
 FitsVolume plain commands.SealCheckpoint = Unit {0}
 FitsVolume plain commands.Remove = Unit {0}
+FitsVolume plain commands.PlanCopy = Unit {0}
+FitsVolume plain commands.SealCopy = Unit {0}
+FitsVolume plain commands.DropPlan = Unit {0}
 FitsVolume plain commands.Status = Unit {0}
 FitsVolume plain (commands.Stop calls) = Unit {0}
 FitsVolume plain (commands.CrashKeep device objects) = FitKept plain device objects
@@ -181,6 +191,9 @@ AnswersCreation (commands.JobDone number) text next = ⊥
 AnswersCreation (commands.JobFailed number) text next = ⊥
 AnswersCreation commands.SealCheckpoint text next = ⊥
 AnswersCreation commands.Remove text next = ⊥
+AnswersCreation commands.PlanCopy text next = ⊥
+AnswersCreation commands.SealCopy text next = ⊥
+AnswersCreation commands.DropPlan text next = ⊥
 AnswersCreation commands.Status text next = ⊥
 AnswersCreation (commands.Stop calls) text next = ⊥
 AnswersCreation (commands.CrashKeep device objects) text next = ⊥
@@ -203,6 +216,9 @@ AnswersOn plain (commands.JobFailed number) text next =
     × (text ≡ codes "failed " ++ decimal number) × (next ≡ Some (plain_after (events.JobFailed (Some number)) plain))
 AnswersOn plain commands.SealCheckpoint text next = AnswersStep plain events.SealCheckpoint text next
 AnswersOn plain commands.Remove text next = AnswersRemoval plain text next
+AnswersOn plain commands.PlanCopy text next = AnswersStep plain events.PlanCopy text next
+AnswersOn plain commands.SealCopy text next = IsTrue (is_some plain.plan) × AnswersStep plain (events.SealCopy true) text next
+AnswersOn plain commands.DropPlan text next = IsTrue (is_some plain.plan) × AnswersStep plain events.DropPlan text next
 AnswersOn plain commands.Status text next = AnswersStep plain events.Status text next
 AnswersOn plain (commands.Stop calls) text next =
     (plain.cache.left ≡ None) × (text ≡ codes "stop " ++ decimal calls) × (next ≡ Some (stopping_after_calls calls plain))

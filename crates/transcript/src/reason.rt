@@ -13,7 +13,8 @@ pub enum LineReason {
     /// volume.
     Form,
     /// Its command is not allowed where it stands: `new` comes first, and only there; a put is done or fails
-    /// only where it was begun; and the device is told to stop only where it was not.
+    /// only where it was begun; a copy is sealed or given up only where its plan is out; and the device is
+    /// told to stop only where it was not.
     NotAllowed,
     /// Its letters do not fit the writes that were not synced, or the objects under way.
     Letters,

@@ -133,7 +133,8 @@ module _ (old : VolumeState) (objects : ObjLogState) where
       subst (λ list. HasBytesAt (number - (objects.uploads.queue.frontier + 1)) list bytes) (sym sealed) moved
 
   -- one more object comes last
-  sealed_bytes : (bytes : List ℕ) (rows : SealedRows) (end : ℕ) → IsSealedNext bytes rows end old.objects.uploads objects.uploads
+  pub sealed_bytes : (bytes : List ℕ) (rows : SealedRows) (end : ℕ)
+      → IsSealedNext bytes rows end old.objects.uploads objects.uploads
       → KeepsBytes old now
   sealed_bytes bytes rows end next number own before has after =
       let index = number - (old.objects.uploads.queue.frontier + 1) in

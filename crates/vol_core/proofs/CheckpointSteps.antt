@@ -20,6 +20,7 @@ use Rattle.refine_objects.proofs.ShowLemmas.{room_shows_same}
 use Rattle.refine_objects.proofs.TableLemmas.{room_shows_same_table}
 use Rattle.refine_objects.proofs.CheckpointShown.{with_checkpoint, checkpoint_end, sealed_shows_seal_checkpoint}
 use Rattle.refine_objects.proofs.CheckpointShown.{refused_seal_checkpoint_shows_none}
+use Rattle.refine_objects.proofs.PlanCalls.{room_keeps_plan, sealed_keeps_plan}
 use Rattle.vol_core.specs.declared.event.Event.TheVariants.{SealCheckpoint}
 use Rattle.vol_core.specs.declared.reply.Reply.{Reply}
 use Rattle.vol_core.specs.declared.reply.Reply.TheVariants as told
@@ -46,12 +47,21 @@ checkpoint_is_taken data_at objects plain shows free =
 -- where it seals one, its objects change, and else nothing
 checkpoint_changes : (plain : PlainState) (is_full : Bool) → IsPlainVolume plain
     → IsOfOtherObjects plain (cond is_full plain (with_checkpoint plain))
-checkpoint_changes plain true valid = record { cache = refl; end = refl; entries = refl; frontier = omega arith }
+checkpoint_changes plain true valid = record {
+  cache = refl;
+  end = refl;
+  entries = refl;
+  frontier = omega arith;
+  plan = refl;
+  geometry = refl;
+}
 checkpoint_changes plain false valid = record {
   cache = refl;
   end = refl;
   entries = refl;
   frontier = omega (arith, checkpoint_end plain valid);
+  plan = refl;
+  geometry = refl;
 }
 
 -- ---- the list
@@ -62,10 +72,17 @@ sealed_list (told.Sealed number) old new seals = record {
   same = record { uuid = seals.0.sealed.uuid; geometry = ap (λ (b : BatchState). b.geometry) seals.1 };
   back = tt;
   quiet = refl;
+  stays = λ was. refl;
 }
-sealed_list told.Busy old new seals = record { same = same_list old new seals.0; back = tt; quiet = refl }
+sealed_list told.Busy old new seals = record { same = same_list old new seals.0; back = tt; quiet = refl; stays = λ was. refl }
 sealed_list told.OutOfMemory old new seals =
-    record { same = record { uuid = seals.0.uploads.uuid; geometry = seals.0.geometry }; back = tt; quiet = refl }
+    record {
+      same = record { uuid = seals.0.uploads.uuid; geometry = seals.0.geometry };
+      back = tt;
+      quiet = refl;
+      stays = λ was.
+          refl;
+    }
 sealed_list reply old new seals = absurd seals
 
 module _ {R : Type 0} (state : R → ReceiptState) (old : VolumeState) (objects : ObjLogState) where
@@ -91,7 +108,7 @@ module _ {R : Type 0} (state : R → ReceiptState) (old : VolumeState) (objects 
   room_shown plain shows same =
       objects_shown old objects plain plain shows (checkpoint_changes plain true shows.valid) shows.valid
       (room_shows_same shows.data_at old.objects objects plain shows.objects same)
-      (room_shows_same_table old.objects objects plain same shows.table)
+      (room_shows_same_table old.objects objects plain same shows.table) (room_keeps_plan old.objects objects same)
 
   checkpoint_steps : (reply : Reply R) → IsUploads old.objects.uploads → SealsCheckpoint reply old.objects objects
       → StepsAsPlain state SealCheckpoint reply old changed
@@ -101,7 +118,8 @@ module _ {R : Type 0} (state : R → ReceiptState) (old : VolumeState) (objects 
       let leaves = checkpoint_changes plain (is_busy plain) shows.valid in
       let now =
       objects_shown old objects plain (after_seal_checkpoint plain) shows leaves (seal_checkpoint_keeps plain shows.valid)
-      shown.0.objects shown.0.table in
+      shown.0.objects shown.0.table
+      (sealed_keeps_plan _ _ _ old.objects.uploads objects.uploads seals.0.sealed) in
       inl (quiet_step state SealCheckpoint (told.Sealed number) plain old changed events.SealCheckpoint shows refl
       (shown.1 ∙ ap replies.Sealed (sym seals.2)) now refl leaves.cache)
   checkpoint_steps told.Busy uploads seals plain shows =

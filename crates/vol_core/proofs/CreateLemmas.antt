@@ -98,6 +98,7 @@ created_shows objects log uuid bytes epoch geometry old limits size_is formatted
           list.sealed list.settled list.log);
       table = table_shown_with_other_cache queue (created_volume geometry) _
           (new_table_shows_created queue geometry list.frontier list.objects_are list.checkpoint list.removal);
+      plan = refl;
       log = subst (λ n. ShowsLog log (empty_from n 0)) size (formatted_shows_empty bytes epoch 0 old log (search rules)
           (search rules) formatted);
       logged = created_logged data_at geometry left log formatted.first formatted.rows formatted.entries;

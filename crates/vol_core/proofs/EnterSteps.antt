@@ -46,6 +46,8 @@ use Rattle.refine_objects.specs.Laws.{HasCounts}
 use Rattle.refine_objects.proofs.ShowLemmas.{shown_have_counts, shown_with_other_cache, shown_with_other_places, room_shows_same}
 use Rattle.refine_objects.proofs.ShowLemmas.{added_shows_entry}
 use Rattle.refine_objects.proofs.TableLemmas.{table_shown_with_other_cache, room_shows_same_table, added_shows_table}
+use Rattle.refine_objects.specs.PlanLaws.{KeepsPlan}
+use Rattle.refine_objects.proofs.PlanCalls.{others_keep_plan, room_keeps_plan, added_keeps_plan}
 use Rattle.vol_core.specs.declared.reply.EntryRefusal.{EntryRefusal}
 use Rattle.vol_core.specs.declared.reply.EntryRefusal.TheVariants as refusals
 use Rattle.vol_core.specs.declared.reply.Reply.{Reply}
@@ -143,6 +145,7 @@ record HasStepParts {R : Type 0} (state : R → ReceiptState) (entry : Entry) (r
   tells : Tells state old reply answer
   has_objects : ShowsObjects data_at objects (record plain { entries = taken })
   has_table : ShowsTable objects.uploads.queue (record plain { entries = taken })
+  keeps_plan : KeepsPlan old.objects.uploads.queue objects.uploads.queue
   has_log : ShowsLog log plain_log
   logged : HasLoggedEntries data_at log (record plain { entries = taken })
   told : HasRoom (most_of_step (event_of {R = R} entry)).changes (most_of_step (event_of {R = R} entry)).bytes
@@ -186,6 +189,7 @@ module _ {R : Type 0} (state : R → ReceiptState) (reply : Reply R) (old : Volu
             entries
             (table_shown_with_other_cache objects.uploads.queue (record plain { entries = parts.taken }) now.cache
             parts.has_table);
+        plan = parts.keeps_plan old.plan plain now refl refl shows.table shows.plan;
         log = subst (ShowsLog log) (sym parts.does.log_is) parts.has_log;
         logged = subst (λ (l : List Entry). HasLoggedEntries parts.data_at log (record plain { entries = l; cache = now.cache }))
             entries logged;
@@ -269,6 +273,7 @@ module _ {R : Type 0} (state : R → ReceiptState) (entry : Entry) (old : Volume
     tells = tells;
     has_objects = shows.objects;
     has_table = shows.table;
+    keeps_plan = others_keep_plan old.objects.uploads.queue;
     has_log = shows.log;
     logged = shows.logged;
     told = λ room. (shows.fuse, shows.fuse);
@@ -321,8 +326,9 @@ module _ {R : Type 0} (state : R → ReceiptState) (entry : Entry) (old : Volume
         → ShowsObjects (places_by result shows.data_at (history_length plain)) objects
         (record plain { entries = entries_by result plain.entries entry })
         → ShowsTable objects.uploads.queue (record plain { entries = entries_by result plain.entries entry })
+        → KeepsPlan old.objects.uploads.queue objects.uploads.queue
         → HasStepParts state entry reply old plain objects log
-    came_parts reply objects tells shown table = record {
+    came_parts reply objects tells shown table keeps = record {
       left = came.left;
       answer = reply_to_append result (history_length plain);
       plain_log = came.log;
@@ -333,6 +339,7 @@ module _ {R : Type 0} (state : R → ReceiptState) (entry : Entry) (old : Volume
       tells = tells;
       has_objects = shown;
       has_table = table;
+      keeps_plan = keeps;
       has_log = came.shows;
       logged = came.logged;
       told = λ room. came.told (room_for_step old.log.commits.unfinished entry R old.log.commits.disk.budget room);
@@ -359,7 +366,7 @@ module _ {R : Type 0} (state : R → ReceiptState) (entry : Entry) (old : Volume
       let last = ready_last (Err error) objects log comes in (
         step_by_parts state reply old plain shows objects log entry
             (came_parts (Err error) objects log comes reply objects tells (ready_shows (Err error) objects log comes)
-            (ready_table (Err error) objects log comes)),
+            (ready_table (Err error) objects log comes) (room_keeps_plan old.objects objects comes.same)),
         record { entries = with.next; objects = omega (arith, last); commits = with.number },
       )
 
@@ -389,6 +396,13 @@ module _ {R : Type 0} (state : R → ReceiptState) (entry : Entry) (old : Volume
       let next = counts.next in
       omega (arith, first, many, more, was_first, was_many, next, is)
 
+  entered_keeps_plan : (at : ℕ) (ready objects : ObjLogState) → IsSame old.objects ready → IsAdded entry (at + 1) ready objects
+      → KeepsPlan old.objects.uploads.queue objects.uploads.queue
+  entered_keeps_plan at ready objects same added = λ out before later same_plan same_sizes table plan.
+      added_keeps_plan ready objects entry (at + 1) added out before later same_plan same_sizes
+      (room_shows_same_table old.objects ready before same table)
+      (room_keeps_plan old.objects ready same out before before refl refl table plan)
+
   entered_step : (count : ℕ) (objects : ObjLogState) (log : LogState) → EntersBoth entry count old.objects objects old.log log
       → IsStep state (event_of entry) (told.Entered count) plain old (with_both objects log old)
       × CountsGrow old (with_both objects log old)
@@ -404,7 +418,8 @@ module _ {R : Type 0} (state : R → ReceiptState) (entry : Entry) (old : Volume
       added_shows_table both.ready objects plain entry (both.at + 1) both.added shows.valid
       (ready_table (Ok both.at) both.ready log comes) in (
         step_by_parts state (told.Entered count) old plain shows objects log entry
-            (came_parts (Ok both.at) both.ready log comes (told.Entered count) objects tells shown table),
+            (came_parts (Ok both.at) both.ready log comes (told.Entered count) objects tells shown table
+            (entered_keeps_plan both.at both.ready objects comes.same both.added)),
         record { entries = with.next; objects = omega (arith, added_last, last); commits = with.number },
       )
 
@@ -430,6 +445,7 @@ module _ {R : Type 0} (state : R → ReceiptState) (entry : Entry) (old : Volume
             data_at = shows.data_at;
             objects = room_shows_same shows.data_at old.objects objects plain shows.objects same;
             table = room_shows_same_table old.objects objects plain same shows.table;
+            plan = room_keeps_plan old.objects objects same old.plan plain plain refl refl shows.table shows.plan;
             log = subst (λ l. ShowsLog l plain.cache.log) (sym is) (reserved_shows old.log log.reserved plain.cache.log
                 shows.log);
             logged = subst (λ l. HasLoggedEntries shows.data_at l plain) (sym is)

@@ -20,6 +20,7 @@ use Rattle.refine_log.specs.Fuses.{fuse_in}
 use Rattle.refine_objects.proofs.ShowLemmas.{shown_have_counts, shown_with_other_cache}
 use Rattle.refine_objects.proofs.TableLemmas.{table_shown_with_other_cache}
 use Rattle.refine_log.specs.Pending.{ShowsPending}
+use Rattle.refine_objects.proofs.PlanCalls.{others_keep_plan}
 use Rattle.vol_core.specs.declared.event.Event.TheVariants.{Flush}
 use Rattle.vol_core.specs.declared.reply.Reply.{Reply}
 use Rattle.vol_core.specs.declared.reply.Reply.TheVariants as told
@@ -75,6 +76,7 @@ module _ (old : VolumeState) (log : LogState) (is_made : Bool) (plain : PlainSta
         data_at = shows.data_at;
         objects = shown_with_other_cache shows.data_at old.objects plain flushed.cache plain.pins shows.objects;
         table = table_shown_with_other_cache old.objects.uploads.queue plain flushed.cache shows.table;
+        plan = others_keep_plan old.objects.uploads.queue old.plan plain flushed refl refl shows.table shows.plan;
         log = commit.commits.log;
         logged = record { first = logged.first; rows = logged.rows; entries = logged.entries; placed = logged.placed };
         fuse = refl;

@@ -1,13 +1,15 @@
-use Rattle.std.proofs.Common.{◌≡◌, ℕ, refl, sym, subst}
+use Rattle.std.proofs.Common.{◌≡◌, ℕ, Option, refl, sym, subst}
 use Rattle.lsvd_device.specs.Device.{DiskState}
 use Rattle.commit_slot.specs.Commits.{with_budget}
 use Rattle.cache_log.specs.Log.{LogState}
+use Rattle.gc_copier.specs.Plan.{PlanState}
 use Rattle.obj_log.specs.State.{ObjLogState}
 use Rattle.plain_disk.specs.State.{PlainState}
 use Rattle.refine_log.specs.Fuses.{fuse_in}
 use Rattle.refine_objects.proofs.ShowLemmas.{shown_with_other_cache}
 use Rattle.refine_objects.proofs.TableLemmas.{table_shown_with_other_cache}
-use Rattle.vol_core.specs.Volume.{VolumeState, volume_of, with_budget_of}
+use Rattle.refine_objects.proofs.PlanCalls.{others_keep_plan}
+use Rattle.vol_core.specs.Volume.{VolumeState, volume_with, with_budget_of}
 use Rattle.vol_core.specs.Shows.{Shows, IsSmall}
 use Rattle.vol_core.specs.Step.{passing}
 use Rattle.vol_core.proofs.StepLemmas.{passing_keeps}
@@ -20,6 +22,9 @@ shows_passing disk volume plain shows = record {
   data_at = shows.data_at;
   objects = shown_with_other_cache shows.data_at volume.objects plain _ plain.pins shows.objects;
   table = table_shown_with_other_cache volume.objects.uploads.queue plain _ shows.table;
+  plan =
+      others_keep_plan volume.objects.uploads.queue volume.plan plain (passing (fuse_in disk.budget) plain) refl refl
+      shows.table shows.plan;
   log = record {
     room = shows.log.room;
     last = shows.log.last;
@@ -45,18 +50,18 @@ shows_passing disk volume plain shows = record {
 }
 
 -- the same of a log that was lent
-pub shows_lent : (objects : ObjLogState) (log new : LogState) (plain : PlainState)
+pub shows_lent : (objects : ObjLogState) (out : Option PlanState) (log new : LogState) (plain : PlainState)
     → new ≡ record log { commits = with_budget new.commits.disk.budget log.commits }
-    → Shows (volume_of objects log) plain
-    → Shows (volume_of objects new) (passing (fuse_in new.commits.disk.budget) plain)
-shows_lent objects log new plain is shows =
-    subst (λ l. Shows (volume_of objects l) (passing (fuse_in new.commits.disk.budget) plain)) (sym is)
-    (shows_passing new.commits.disk (volume_of objects log) plain shows)
+    → Shows (volume_with objects log out) plain
+    → Shows (volume_with objects new out) (passing (fuse_in new.commits.disk.budget) plain)
+shows_lent objects out log new plain is shows =
+    subst (λ l. Shows (volume_with objects l out) (passing (fuse_in new.commits.disk.budget) plain)) (sym is)
+    (shows_passing new.commits.disk (volume_with objects log out) plain shows)
 
-pub small_lent : (objects : ObjLogState) (log new : LogState) (steps : ℕ)
+pub small_lent : (objects : ObjLogState) (out : Option PlanState) (log new : LogState) (steps : ℕ)
     → new ≡ record log { commits = with_budget new.commits.disk.budget log.commits }
-    → IsSmall (volume_of objects log) steps
-    → IsSmall (volume_of objects new) steps
-small_lent objects log new steps is small =
-    subst (λ l. IsSmall (volume_of objects l) steps) (sym is)
+    → IsSmall (volume_with objects log out) steps
+    → IsSmall (volume_with objects new out) steps
+small_lent objects out log new steps is small =
+    subst (λ l. IsSmall (volume_with objects l out) steps) (sym is)
     (record { entries = small.entries; objects = small.objects; commits = small.commits; pins = small.pins })

@@ -30,3 +30,5 @@ mod BytesLemmas
 mod StepsOf
 mod CheckpointSteps
 mod RemovalSteps
+mod CollectionSteps
+mod CollectionLemmas

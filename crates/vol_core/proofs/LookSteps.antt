@@ -28,6 +28,8 @@ use Rattle.refine_log.specs.Fuses.{fuse_in}
 use Rattle.refine_log.proofs.Shown.{same_shows_same}
 use Rattle.refine_log.specs.Logged.{HasLoggedEntries}
 use Rattle.refine_objects.specs.TableLaws.{ShowsBoth}
+use Rattle.refine_objects.specs.PlanLaws.{KeepsPlan}
+use Rattle.refine_objects.proofs.PlanCalls.{others_keep_plan, pins_keep_plan}
 use Rattle.refine_objects.proofs.ShowLemmas.{shown_have_counts, shown_with_other_cache}
 use Rattle.refine_objects.proofs.TableLemmas.{table_shown_with_other_cache}
 use Rattle.refine_objects.proofs.PinsShown.{pinned_each_show_pins}
@@ -82,8 +84,9 @@ logged_with data_at log plain cache pins is =
 looked_shown : (old : VolumeState) (objects : ObjLogState) (log : LogState) (pins : List ℕ) (plain : PlainState)
     → (shows : Shows old plain) → HasSameEntries old.log log → IsAsBefore old.log.commits log.commits
     → ShowsBoth shows.data_at objects (record plain { pins = pins })
+    → KeepsPlan old.objects.uploads.queue objects.uploads.queue
     → Shows (with_both objects log old) (plain_with (fuse_in log.commits.disk.budget) pins plain)
-looked_shown old objects log pins plain shows same commits both =
+looked_shown old objects log pins plain shows same commits both keeps =
     let cache : PlainCache = record plain.cache { left = fuse_in log.commits.disk.budget } in
     let pinned : PlainState = record plain { pins = pins } in
     record {
@@ -91,6 +94,7 @@ looked_shown old objects log pins plain shows same commits both =
       data_at = shows.data_at;
       objects = shown_with_other_cache shows.data_at objects pinned cache pins both.objects;
       table = table_shown_with_other_cache objects.uploads.queue pinned cache both.table;
+      plan = keeps old.plan plain (plain_with (fuse_in log.commits.disk.budget) pins plain) refl refl shows.table shows.plan;
       log = same_shows_same old.log log plain.cache.log shows.log same commits;
       logged =
           logged_with shows.data_at log plain cache pins
@@ -148,8 +152,9 @@ module _ {R : Type 0} (state : R → ReceiptState) (old : VolumeState) (lba sect
       → ReadsRange lba sectors old.objects.uploads.queue.maps are_made old.log log
       → Tells state old reply (read_reply are_made lba sectors plain)
       → ShowsBoth shows.data_at objects (record plain { pins = read_pins are_made lba sectors plain })
+      → KeepsPlan old.objects.uploads.queue objects.uploads.queue
       → IsStep state (Look lba sectors) reply plain old (with_both objects log old)
-  read_step reply objects log are_made reads tells both =
+  read_step reply objects log are_made reads tells both keeps =
       let shown = read_shown old plain shows ordered lba sectors may in
       let inside = read_ends old plain shows ordered lba sectors may in
       let may_plain = may_read old plain shows ordered lba sectors may in
@@ -167,7 +172,8 @@ module _ {R : Type 0} (state : R → ReceiptState) (old : VolumeState) (lba sect
         tells = subst (Tells state old reply) (sym (look_reply_is has.fuse plain lba sectors true are_made may_plain lets)) tells;
         shows =
             subst (λ p. Shows (with_both objects log old) (passing left p)) (sym after)
-            (looked_shown old objects log (read_pins are_made lba sectors plain) plain shows rows.same rows.commits both);
+            (looked_shown old objects log (read_pins are_made lba sectors plain) plain shows rows.same rows.commits both
+            keeps);
         told = λ room. (
           (has.told room).0,
           ap (λ (p : PlainState). p.cache.left) after ∙ (ap (fuse_after has.fuse) (sym same) ∙ (has.told room).1),
@@ -204,6 +210,7 @@ module _ {R : Type 0} (state : R → ReceiptState) (old : VolumeState) (lba sect
       read_step (told.Planned plan) objects log true reads
       (planned_read plain lba sectors, refl, record { history_length = history_length; objects = numbers; gives = gives })
       (subst (λ list. ShowsBoth shows.data_at objects (record plain { pins = plain.pins ++ list })) numbers both)
+      ((pins_keep_plan plan.objects old.objects.uploads objects.uploads).0 pinned)
 
 pub planned_steps : {R : Type 0} (state : R → ReceiptState) (old : VolumeState) (lba sectors : ℕ) (plan : PlanState)
     (objects : ObjLogState) (log : LogState)
@@ -225,7 +232,7 @@ fault_steps state old lba sectors objects log ordered may same reads plain shows
     inl
     (subst (λ o. IsStep state (Look lba sectors) told.Fault plain old (with_both o log old)) (sym same)
     (read_step state old lba sectors ordered may plain shows told.Fault old.objects log false reads refl
-    (own_both state old lba sectors ordered may plain shows)))
+    (own_both state old lba sectors ordered may plain shows) (others_keep_plan old.objects.uploads.queue)))
 
 -- memory ran out
 pub memory_steps : {R : Type 0} (state : R → ReceiptState) (old : VolumeState) (lba sectors : ℕ) (objects : ObjLogState)

@@ -32,6 +32,8 @@ use Rattle.refine_objects.proofs.TableLemmas.{room_shows_same_table, sealed_show
 use Rattle.refine_objects.proofs.DoneTable.{done_shows_table}
 use Rattle.refine_objects.proofs.NewestShown.{newest_is_shown}
 use Rattle.refine_objects.proofs.JobLemmas.{below_marked, taken_shows_take, failed_shows_failed, done_frontier, done_shows_done}
+use Rattle.refine_objects.specs.PlanLaws.{KeepsPlan}
+use Rattle.refine_objects.proofs.PlanCalls.{room_keeps_plan, sealed_keeps_plan, jobs_keep_plan, done_keeps_plan}
 use Rattle.vol_core.specs.declared.event.Event.{Event}
 use Rattle.vol_core.specs.declared.event.Event.TheVariants.{Seal, TakeJob, JobDone, JobFailed, Status}
 use Rattle.vol_core.specs.declared.reply.Reply.{Reply}
@@ -127,6 +129,8 @@ window_changes plain window checkpoint valid grows = record {
   end = refl;
   entries = refl;
   frontier = ends_grow (stream_in plain) (frontier_of plain) (below_open window) valid.stream.ends grows;
+  plan = refl;
+  geometry = refl;
 }
 
 holds_of_either : (P : WindowState → Type 0) (b : Bool) (window other : WindowState) → P window → P other
@@ -162,9 +166,11 @@ seal_changes plain true valid = record {
   end = refl;
   entries = refl;
   frontier = omega (arith, sealed_end plain valid);
+  plan = refl;
+  geometry = refl;
 }
 seal_changes plain false valid =
-    record { cache = refl; end = refl; entries = refl; frontier = omega arith }
+    record { cache = refl; end = refl; entries = refl; frontier = omega arith; plan = refl; geometry = refl }
 
 -- ---- the objects change
 
@@ -197,7 +203,11 @@ module _ {R : Type 0} (state : R → ReceiptState) (old : VolumeState) (objects 
       (taken_shows_table old.objects.uploads plain number shows.table) in
       let leaves = window_changes plain (window_after_take lowest plain.window) plain.checkpoint shows.valid
       (take_leaves lowest plain.window) in
-      let now = objects_shown old objects plain (after_take plain) shows leaves (take_keeps plain shows.valid) shown table in
+      let keeps =
+      subst (λ (o : ObjLogState). KeepsPlan old.objects.uploads.queue o.uploads.queue) (sym taken.2)
+      (jobs_keep_plan number true old.objects.uploads) in
+      let now = objects_shown old objects plain (after_take plain) shows leaves (take_keeps plain shows.valid) shown table keeps
+      in
       inl (quiet_step state TakeJob (told.Taken job) plain old changed events.TakeJob shows refl
       (ap reply_of_taken found, taken.1) now
       refl refl)
@@ -231,9 +241,12 @@ module _ {R : Type 0} (state : R → ReceiptState) (old : VolumeState) (objects 
       (failed_shows_table old.objects.uploads plain number shows.table) in
       let leaves = window_changes plain (window_after_failed (Some number) plain.window) plain.checkpoint shows.valid
       (failed_leaves number plain.window) in
+      let keeps =
+      subst (λ (o : ObjLogState). KeepsPlan old.objects.uploads.queue o.uploads.queue) (sym returned.1)
+      (jobs_keep_plan number false old.objects.uploads) in
       let now =
       objects_shown old objects plain (after_failed (Some number) plain) shows leaves
-      (failed_keeps plain (Some number) shows.valid) shown table in
+      (failed_keeps plain (Some number) shows.valid) shown table keeps in
       inl (quiet_step state (JobFailed job) told.Returned plain old changed (events.JobFailed (Some number)) shows
       (Some number, refl, (refl, out))
       (ap (λ b. cond b replies.Returned replies.Nothing) way) now refl refl)
@@ -268,7 +281,8 @@ module _ {R : Type 0} (state : R → ReceiptState) (old : VolumeState) (objects 
       (done_shows_done data_at old.objects objects plain number job.bytes (state receipt) uploads shows.valid shown out own
       put alike done.2)
       (done_shows_table data_at old.objects objects plain number job.bytes (state receipt) uploads now_uploads shows.valid
-      (record { objects = shown; table = shows.table }) out put) in
+      (record { objects = shown; table = shows.table }) out put)
+      (done_keeps_plan number (state receipt) old.objects.uploads objects.uploads put) in
       let tells : done_reply plain (Some number) ≡ replies.Done frontier =
       ap (λ b. cond b (replies.Done (below_open (cond b (acknowledged number plain.window) plain.window))) replies.Nothing) way
       ∙ ap replies.Done (sym (done.3 ∙ later)) in
@@ -286,7 +300,7 @@ module _ {R : Type 0} (state : R → ReceiptState) (old : VolumeState) (objects 
   room_shown plain shows same =
       objects_shown old objects plain plain shows (seal_changes plain false shows.valid) shows.valid
       (room_shows_same shows.data_at old.objects objects plain shows.objects same)
-      (room_shows_same_table old.objects objects plain same shows.table)
+      (room_shows_same_table old.objects objects plain same shows.table) (room_keeps_plan old.objects objects same)
 
   refused : (reply : Reply R) (plain : PlainState) → Shows old plain → IsSame old.objects objects → after_seal plain ≡ plain
       → Tells state old reply (seal_reply plain) → IsStep state Seal reply plain old changed
@@ -305,7 +319,8 @@ module _ {R : Type 0} (state : R → ReceiptState) (old : VolumeState) (objects 
       let now =
       objects_shown old objects plain (after_seal plain) shows leaves (seal_keeps plain shows.valid) shown.0
       (sealed_shows_table shows.data_at old.objects objects plain uploads shows.valid
-      (record { objects = shows.objects; table = shows.table }) seals.0) in
+      (record { objects = shows.objects; table = shows.table }) seals.0)
+      (sealed_keeps_plan _ _ _ old.objects.uploads objects.uploads seals.0.uploads) in
       inl (quiet_step state Seal (told.Sealed number) plain old changed events.Seal shows refl (shown.1
       ∙ ap replies.Sealed (sym seals.1)) now
       refl leaves.cache)

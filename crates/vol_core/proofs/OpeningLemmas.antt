@@ -1,5 +1,5 @@
 -- A volume that shows a plain volume whose first objects were folded into its image shows that volume as it opens.
-use Rattle.std.proofs.Common.{◌≡◌, ℕ, ◌<◌, ◌≤◌, Option, Some, None, IfSome, List, ◌∷◌, sym, ◌∙◌, ap, subst}
+use Rattle.std.proofs.Common.{◌≡◌, ℕ, ◌<◌, ◌≤◌, Option, Some, None, IfSome, List, ◌∷◌, refl, sym, ◌∙◌, ap, subst}
 use Rattle.std.specs.Prelude.{slice_index_or}
 use Rattle.std.proofs.Math.Path.{subst₂}
 use Rattle.lsvd_base.specs.declared.entry.Entry.{Entry}
@@ -12,6 +12,7 @@ use Rattle.plain_disk.proofs.FoldLemmas.{MayFold, frontier_end_of_fold, logged_o
 use Rattle.refine_log.specs.Logged.{listed_from, HasLoggedEntries}
 use Rattle.refine_objects.specs.Table.{ShowsTable}
 use Rattle.refine_objects.proofs.FoldedShown.{shown_from_first}
+use Rattle.refine_objects.proofs.PlanCalls.{others_keep_plan}
 use Rattle.vol_core.specs.Opening.{ShowsFromFirst}
 
 -- the entries of a list from an end on, where the end and the entries are told in another way
@@ -70,6 +71,9 @@ shows_from_first volume plain number valid from to none placed shows =
       data_at = shows.data_at;
       objects = shown_from_first shows.data_at volume.objects plain number valid from to none placed shows.objects;
       table = table_from_first plain number h volume.objects.uploads.queue shows.table;
+      plan =
+          others_keep_plan volume.objects.uploads.queue volume.plan (folded_to number plain) plain refl refl shows.table
+          shows.plan;
       log = shows.log;
       logged = logged_from_first plain number h shows.data_at volume.log shows.logged;
       fuse = shows.fuse;

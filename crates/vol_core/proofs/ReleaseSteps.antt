@@ -18,6 +18,8 @@ use Rattle.plain_disk.specs.Reads.{are_pinned, without_pins, after_plan_release}
 use Rattle.plain_disk.specs.Valid.{IsPlainVolume}
 use Rattle.plain_disk.proofs.EventLemmas.{release_keeps}
 use Rattle.refine_objects.specs.TableLaws.{ShowsBoth}
+use Rattle.refine_objects.specs.PlanLaws.{KeepsPlan}
+use Rattle.refine_objects.proofs.PlanCalls.{pins_keep_plan}
 use Rattle.refine_objects.proofs.PinsShown.{unpinned_each_show_unpins, pinned_are_shown}
 use Rattle.read_plan.specs.Plan.{PlanState}
 use Rattle.vol_core.specs.declared.event.Event.TheVariants.{Release}
@@ -65,10 +67,13 @@ pins_leave change (number ∷ numbers) old new each =
 pub pins_shown : (old : VolumeState) (objects : ObjLogState) (plain : PlainState) (pins : List ℕ)
     → (shows : Shows old plain) → IsPlainVolume (record plain { pins = pins })
     → ShowsBoth shows.data_at objects (record plain { pins = pins })
+    → KeepsPlan old.objects.uploads.queue objects.uploads.queue
     → Shows (with_objects objects old) (record plain { pins = pins })
-pins_shown old objects plain pins shows valid both =
+pins_shown old objects plain pins shows valid both keeps =
     objects_shown old objects plain (record plain { pins = pins }) shows
-    (record { cache = refl; end = refl; entries = refl; frontier = omega arith }) valid both.objects both.table
+    (record { cache = refl; end = refl; entries = refl; frontier = omega arith; plan = refl; geometry = refl }) valid both.objects
+    both.table
+    keeps
 
 -- ---- a plan is given back
 
@@ -86,10 +91,12 @@ released_steps state plan old objects uploads ascend some out batch plain shows 
     let after : after_plan_release plan.objects plain ≡ now = ap (λ b. cond b now plain) are in
     let valid = subst IsPlainVolume after (release_keeps plain plan.objects shows.valid) in
     let shown = unpinned_each_show_unpins shows.data_at old.objects objects plain plan.objects uploads both out batch in
+    let keeps = (pins_keep_plan plan.objects old.objects.uploads objects.uploads).1 out in
     inl
     (quiet_step state (Release plan) told.Released plain old (with_objects objects old) (events.Release plan.objects) shows refl
     (ap (λ b. cond b replies.Released replies.Nothing) are)
-    (subst (Shows (with_objects objects old)) (sym after) (pins_shown old objects plain left shows valid shown)) refl
+    (subst (Shows (with_objects objects old)) (sym after)
+    (pins_shown old objects plain left shows valid shown keeps)) refl
     (ap (λ (p : PlainState). p.cache) after))
 
 -- one was not

@@ -20,6 +20,7 @@ use Rattle.refine_objects.specs.Shows.{TellsAsOne}
 use Rattle.refine_objects.specs.TableLaws.{ShowsBoth}
 use Rattle.refine_objects.proofs.RemovalShown.{taken_shows_removal, none_taken_shows_none, finished_shows_removed}
 use Rattle.refine_objects.proofs.RemovalShown.{taken_back_shows_given_back, not_out_shows_nothing}
+use Rattle.refine_objects.proofs.PlanCalls.{removals_keep_plan}
 use Rattle.vol_core.specs.declared.event.Event.TheVariants.{TakeRemove, RemoveDone, RemoveFailed}
 use Rattle.vol_core.specs.declared.reply.Reply.{Reply}
 use Rattle.vol_core.specs.declared.reply.Reply.TheVariants as told
@@ -38,15 +39,52 @@ use Rattle.vol_core.proofs.StepsOf.{IsOfList, same_list, step_of_list}
 
 -- a removal changes none of its objects
 removal_changes : (out lowest : Option ℕ) (plain : PlainState) → IsOfOtherObjects plain (with_removal out lowest plain)
-removal_changes None None plain = record { cache = refl; end = refl; entries = refl; frontier = omega arith }
-removal_changes None (Some number) plain = record { cache = refl; end = refl; entries = refl; frontier = omega arith }
-removal_changes (Some other) lowest plain = record { cache = refl; end = refl; entries = refl; frontier = omega arith }
+removal_changes None None plain = record {
+  cache = refl;
+  end = refl;
+  entries = refl;
+  frontier = omega arith;
+  plan = refl;
+  geometry
+      = refl;
+}
+removal_changes None (Some number) plain = record {
+  cache = refl;
+  end = refl;
+  entries = refl;
+  frontier = omega arith;
+  plan = refl;
+  geometry = refl;
+}
+removal_changes (Some other) lowest plain = record {
+  cache = refl;
+  end = refl;
+  entries = refl;
+  frontier = omega arith;
+  plan
+      = refl;
+  geometry = refl;
+}
 
 -- nor does its end
 ending_changes : (ends : Bool) (removed : List ℕ) (plain : PlainState)
     → IsOfOtherObjects plain (cond ends (record plain { removed = removed; removal = None }) plain)
-ending_changes true removed plain = record { cache = refl; end = refl; entries = refl; frontier = omega arith }
-ending_changes false removed plain = record { cache = refl; end = refl; entries = refl; frontier = omega arith }
+ending_changes true removed plain = record {
+  cache = refl;
+  end = refl;
+  entries = refl;
+  frontier = omega arith;
+  plan = refl;
+  geometry = refl;
+}
+ending_changes false removed plain = record {
+  cache = refl;
+  end = refl;
+  entries = refl;
+  frontier = omega arith;
+  plan = refl;
+  geometry = refl;
+}
 
 -- ---- a receipt that comes back
 
@@ -105,23 +143,34 @@ module _ {R : Type 0} (state : R → ReceiptState) where
   taken_list : (reply : Reply R) (old new : ObjLogState) → TakesLowestRemovable state reply old new
       → IsOfList TakeRemove reply old new
   taken_list (told.Removing receipt) old new taken =
-      record { same = others_same old new taken.taken.rest taken.batch; back = tt; quiet = refl }
-  taken_list told.Nothing old new taken = record { same = same_list old new taken.1; back = tt; quiet = refl }
+      record { same = others_same old new taken.taken.rest taken.batch; back = tt; quiet = refl; stays = λ was. refl }
+  taken_list told.Nothing old new taken = record {
+    same = same_list old new taken.1;
+    back = tt;
+    quiet = refl;
+    stays = λ was. refl;
+  }
   taken_list reply old new taken = absurd taken
 
   finished_list : (number : ℕ) (reply : Reply R) (old new : ObjLogState) → FinishesRemoving number reply old new
       → IsOfList (RemoveDone number) reply old new
   finished_list number told.Removed old new done =
-      record { same = others_same old new done.1.rest done.2; back = tt; quiet = refl }
-  finished_list number told.Nothing old new done = record { same = same_list old new done.1; back = tt; quiet = refl }
+      record { same = others_same old new done.1.rest done.2; back = tt; quiet = refl; stays = λ was. refl }
+  finished_list number told.Nothing old new done = record {
+    same = same_list old new done.1;
+    back = tt;
+    quiet = refl;
+    stays
+        = λ was. refl;
+  }
   finished_list number reply old new done = absurd done
 
   given_list : (receipt : R) (reply : Reply R) (old new : ObjLogState) → GivesBackRemoval state receipt reply old new
       → IsOfList (RemoveFailed receipt) reply old new
   given_list receipt told.GivenBack old new given =
-      record { same = others_same old new given.1.rest given.2; back = tt; quiet = refl }
+      record { same = others_same old new given.1.rest given.2; back = tt; quiet = refl; stays = λ was. refl }
   given_list receipt (told.NotGivenBack back) old new given =
-      record { same = same_list old new given.2; back = given.1; quiet = refl }
+      record { same = same_list old new given.2; back = given.1; quiet = refl; stays = λ was. refl }
   given_list receipt reply old new given = absurd given
 
 module _ {R : Type 0} (state : R → ReceiptState) (old : VolumeState) (objects : ObjLogState) where
@@ -177,7 +226,8 @@ module _ {R : Type 0} (state : R → ReceiptState) (old : VolumeState) (objects 
       let leaves = removal_changes plain.removal (to_remove plain) plain in
       let now =
       objects_shown old objects plain (after_take_remove plain) shows leaves (take_remove_keeps plain shows.valid)
-      shown.0.objects shown.0.table in
+      shown.0.objects shown.0.table
+      ((removals_keep_plan number old.objects.uploads objects.uploads uploads).0 (state receipt) taken.next taken.taken) in
       inl (quiet_step state TakeRemove (told.Removing receipt) plain old changed events.TakeRemove shows refl
       (shown.1, taken.named) now refl leaves.cache)
   taken_steps told.Nothing uploads after alike taken plain shows =
@@ -195,7 +245,8 @@ module _ {R : Type 0} (state : R → ReceiptState) (old : VolumeState) (objects 
       let leaves = ending_changes (is_out number plain.removal) (plain.removed ++ number ∷ []) plain in
       let now =
       objects_shown old objects plain (after_remove_done number plain) shows leaves (remove_done_keeps plain number shows.valid)
-      shown.0.objects shown.0.table in
+      shown.0.objects shown.0.table
+      ((removals_keep_plan number old.objects.uploads objects.uploads uploads).1 done.0 done.1) in
       inl (quiet_step state (RemoveDone number) told.Removed plain old changed (events.RemoveDone number) shows refl shown.1 now
       refl leaves.cache)
   finished_steps number told.Nothing uploads after done plain shows =
@@ -215,7 +266,8 @@ module _ {R : Type 0} (state : R → ReceiptState) (old : VolumeState) (objects 
       let leaves = ending_changes (is_out number plain.removal) plain.removed plain in
       let now =
       objects_shown old objects plain (after_remove_failed number plain) shows leaves
-      (remove_failed_keeps plain number shows.valid) shown.0.objects shown.0.table in
+      (remove_failed_keeps plain number shows.valid) shown.0.objects shown.0.table
+      ((removals_keep_plan number old.objects.uploads objects.uploads uploads).2 (state receipt) given.0.0 given.1) in
       inl (quiet_step state (RemoveFailed receipt) told.GivenBack plain old changed (events.RemoveFailed number) shows
       (number, refl, inl given.0.1) shown.1 now refl leaves.cache)
   given_steps receipt (told.NotGivenBack back) uploads after given plain shows =

@@ -10,6 +10,7 @@ use Rattle.lsvd_objstore.specs.Store.{ReceiptState}
 use Rattle.upload_window.specs.Window.{WindowState}
 use Rattle.cache_log.specs.declared.row.Row.{Row}
 use Rattle.cache_log.specs.Log.{LogState, next_seq, AreRowsOf}
+use Rattle.gc_copier.specs.Plan.{PlanState}
 use Rattle.obj_log.specs.State.{ObjLogState}
 use Rattle.plain_disk.specs.declared.event.PlainEvent.{PlainEvent}
 use Rattle.plain_disk.specs.Cache.{PlainCache}
@@ -22,6 +23,8 @@ use Rattle.refine_log.specs.Logged.{listed_from, HasLoggedEntries}
 use Rattle.refine_objects.specs.Shows.{ShowsObjects}
 use Rattle.refine_log.specs.Pending.{ShowsPending}
 use Rattle.refine_objects.specs.Table.{ShowsTable}
+use Rattle.refine_objects.specs.Plan.{ShowsPlan}
+use Rattle.refine_objects.specs.PlanLaws.{KeepsPlan}
 use Rattle.vol_core.specs.declared.event.Event.{Event}
 use Rattle.vol_core.specs.declared.reply.Reply.{Reply}
 use Rattle.vol_core.specs.Volume.{VolumeState, SteppedVolume}
@@ -158,12 +161,21 @@ step_seen state event reply new inside seen same step =
 
 -- ---- only the objects change
 
--- what becomes of the plain volume where only its objects change: the frontier does not go back
+-- what becomes of the plain volume where its entries and its cache stay: the frontier does not go back
+pub record KeepsEntries (plain now : PlainState) : Type 0 where
+  pub cache : now.cache ≡ plain.cache
+  pub end : now.end ≡ plain.end
+  pub entries : now.entries ≡ plain.entries
+  pub frontier : frontier_end plain ≤ frontier_end now
+
+-- the same where only its objects change, and the plan of a copy that is out stays
 pub record IsOfOtherObjects (plain now : PlainState) : Type 0 where
   pub cache : now.cache ≡ plain.cache
   pub end : now.end ≡ plain.end
   pub entries : now.entries ≡ plain.entries
   pub frontier : frontier_end plain ≤ frontier_end now
+  pub plan : now.plan ≡ plain.plan
+  pub geometry : now.geometry ≡ plain.geometry
 
 -- the rows and the entries without the first ones
 rows_dropped : (n : ℕ) (rows : List Row) (list : List Entry) → AreRowsOf rows list → AreRowsOf (drop n rows) (drop n list)
@@ -174,7 +186,7 @@ rows_dropped (suc n) (row ∷ rows) [] are = absurd are
 rows_dropped (suc n) (row ∷ rows) (entry ∷ list) are = rows_dropped n rows list are.1
 
 module _ (data_at : ℕ → ℕ) (log : LogState) (plain now : PlainState) (valid : IsPlainVolume plain)
-    (other : IsOfOtherObjects plain now)
+    (other : KeepsEntries plain now)
     (logged : HasLoggedEntries data_at log plain) where
   abbrev more : ℕ
   more = frontier_end now - frontier_end plain
@@ -216,16 +228,33 @@ module _ (data_at : ℕ → ℕ) (log : LogState) (plain now : PlainState) (vali
 abbrev pub with_objects : ObjLogState → VolumeState → VolumeState
 with_objects objects volume = record volume { objects = objects }
 
-pub objects_shown : (old : VolumeState) (objects : ObjLogState) (plain now : PlainState) (shows : Shows old plain)
-    → IsOfOtherObjects plain now
+-- and with another plan out, or none
+abbrev pub with_planned : ObjLogState → Option PlanState → VolumeState → VolumeState
+with_planned objects out volume = record volume { objects = objects; plan = out }
+
+pub planned_shown : (old : VolumeState) (objects : ObjLogState) (out : Option PlanState) (plain now : PlainState)
+    (shows : Shows old plain)
+    → KeepsEntries plain now
     → IsPlainVolume now → ShowsObjects shows.data_at objects now → ShowsTable objects.uploads.queue now
-    → Shows (with_objects objects old) now
-objects_shown old objects plain now shows other valid shown table = record {
+    → ShowsPlan objects.uploads.queue out now → Shows (with_planned objects out old) now
+planned_shown old objects out plain now shows other valid shown table plan = record {
   valid = valid;
   data_at = shows.data_at;
   objects = shown;
   table = table;
+  plan = plan;
   log = subst (λ (cache : PlainCache). ShowsLog old.log cache.log) (sym other.cache) shows.log;
   logged = later_logged shows.data_at old.log plain now shows.valid other shows.logged;
   fuse = ap (λ (cache : PlainCache). cache.left) other.cache ∙ shows.fuse;
 }
+
+pub objects_shown : (old : VolumeState) (objects : ObjLogState) (plain now : PlainState) (shows : Shows old plain)
+    → IsOfOtherObjects plain now
+    → IsPlainVolume now → ShowsObjects shows.data_at objects now → ShowsTable objects.uploads.queue now
+    → KeepsPlan old.objects.uploads.queue objects.uploads.queue
+    → Shows (with_objects objects old) now
+objects_shown old objects plain now shows other valid shown table keeps =
+    let entries : KeepsEntries plain now =
+    record { cache = other.cache; end = other.end; entries = other.entries; frontier = other.frontier } in
+    planned_shown old objects old.plan plain now shows entries valid shown table
+    (keeps old.plan plain now other.plan other.geometry shows.table shows.plan)

@@ -1,8 +1,10 @@
 -- What the calls that an event makes leave of a volume is a step of the event.
-use Rattle.std.proofs.Common.{◌≡◌, ◌<◌, false, refl, sym, ap, subst}
+use Rattle.std.proofs.Common.{◌≡◌, ◌<◌, false, Option, refl, sym, ap, subst}
 use Rattle.std.specs.List.{All}
 use Rattle.std.specs.List.Sorted.{IsStrictlyIncreasing}
 use Rattle.std.proofs.Math.Path.{subst₂}
+use Rattle.lsvd_base.specs.declared.entry.Entry.{Entry}
+use Rattle.lsvd_base.specs.declared.entry.Entry.TheVariants as entries
 use Rattle.lsvd_fault.specs.Faults.{Counts}
 use Rattle.lsvd_objstore.specs.Store.{ReceiptState}
 use Rattle.object_table.specs.Table.{unpinned}
@@ -15,14 +17,15 @@ use Rattle.obj_log.specs.State.{ObjLogState}
 use Rattle.plain_disk.specs.State.{PlainState}
 use Rattle.refine_objects.specs.Shows.{TellsAsOne}
 use Rattle.read_plan.specs.Plan.{PlanState}
+use Rattle.gc_copier.specs.Plan as copies
 use Rattle.vol_core.specs.declared.event.Event.{Event}
 use Rattle.vol_core.specs.declared.event.Event.TheVariants.{Release, Seal, TakeJob, JobDone, JobFailed}
 use Rattle.vol_core.specs.declared.reply.Reply.{Reply}
 use Rattle.vol_core.specs.declared.reply.Reply.TheVariants as told
 use Rattle.vol_core.specs.Volume.{VolumeState}
 use Rattle.vol_core.specs.Shows.{Shows, pins_on}
-use Rattle.vol_core.specs.Step.{StepOf, HandsBack, HasItsBytes, KeepsBytes, tells_fault, StepsAsPlain}
-use Rattle.vol_core.specs.Calls.{Seals, TakesLowestReady, Finishes, Returns}
+use Rattle.vol_core.specs.Step.{StepOf, HandsBack, HasItsBytes, KeepsBytes, ChangesPlan, tells_fault, StepsAsPlain}
+use Rattle.vol_core.specs.Calls.{event_of, Seals, TakesLowestReady, Finishes, Returns}
 use Rattle.vol_core.proofs.StepLemmas.{CountsGrow, numbers_grow, counts_stay, with_objects}
 use Rattle.vol_core.proofs.ObjectSteps.{seal_steps, taken_steps, done_steps, returned_steps}
 use Rattle.vol_core.proofs.ObjectSteps.{sealed_grow, taken_grow, done_grow, returned_grow}
@@ -36,6 +39,13 @@ pub record IsOfList {R : Type 0} (event : Event R) (reply : Reply R) (old new : 
   pub same : IsOfSameVolume old new
   pub back : HandsBack event reply
   pub quiet : tells_fault reply ≡ false
+  pub stays : (was : Option copies.PlanState) → ChangesPlan event reply was was
+
+-- an entry leaves the plan of a copy that is out
+pub entry_stays : {R : Type 0} (entry : Entry) (reply : Reply R) (was : Option copies.PlanState)
+    → ChangesPlan (event_of entry) reply was was
+entry_stays (entries.Write lba body) reply was = refl
+entry_stays (entries.Zero lba sectors) reply was = refl
 
 -- ---- each call
 
@@ -44,13 +54,37 @@ same_list old new is = subst (IsOfSameVolume old) (sym is) (record { uuid = refl
 
 sealed_list : {R : Type 0} (reply : Reply R) (old new : ObjLogState) → Seals reply old new → IsOfList Seal reply old new
 sealed_list (told.Sealed number) old new seals =
-    record { same = record { uuid = seals.0.uploads.uuid; geometry = seals.0.geometry }; back = tt; quiet = refl }
+    record {
+      same = record { uuid = seals.0.uploads.uuid; geometry = seals.0.geometry };
+      back = tt;
+      quiet = refl;
+      stays = λ was.
+          refl;
+    }
 sealed_list told.Nothing old new seals =
-    record { same = record { uuid = seals.0.uploads.uuid; geometry = seals.0.geometry }; back = tt; quiet = refl }
+    record {
+      same = record { uuid = seals.0.uploads.uuid; geometry = seals.0.geometry };
+      back = tt;
+      quiet = refl;
+      stays = λ was.
+          refl;
+    }
 sealed_list told.Busy old new seals =
-    record { same = record { uuid = seals.0.uploads.uuid; geometry = seals.0.geometry }; back = tt; quiet = refl }
+    record {
+      same = record { uuid = seals.0.uploads.uuid; geometry = seals.0.geometry };
+      back = tt;
+      quiet = refl;
+      stays = λ was.
+          refl;
+    }
 sealed_list told.OutOfMemory old new seals =
-    record { same = record { uuid = seals.0.uploads.uuid; geometry = seals.0.geometry }; back = tt; quiet = refl }
+    record {
+      same = record { uuid = seals.0.uploads.uuid; geometry = seals.0.geometry };
+      back = tt;
+      quiet = refl;
+      stays = λ was.
+          refl;
+    }
 sealed_list reply old new seals = absurd seals
 
 taken_list : {R : Type 0} (reply : Reply R) (old new : ObjLogState) → TakesLowestReady reply old new
@@ -59,8 +93,9 @@ taken_list (told.Taken job) old new taken = record {
   same = subst (IsOfSameVolume old) (sym taken.2) (record { uuid = refl; geometry = refl });
   back = tt;
   quiet = refl;
+  stays = λ was. refl;
 }
-taken_list told.Nothing old new taken = record { same = same_list old new taken.1; back = tt; quiet = refl }
+taken_list told.Nothing old new taken = record { same = same_list old new taken.1; back = tt; quiet = refl; stays = λ was. refl }
 taken_list reply old new taken = absurd taken
 
 done_list : {R : Type 0} (state : R → ReceiptState) (job : JobState) (receipt : R) (reply : Reply R) (old new : ObjLogState)
@@ -70,9 +105,10 @@ done_list state job receipt (told.Done frontier) old new done = record {
   same = record { uuid = done.1.uuid; geometry = ap (λ b. b.geometry) done.2 };
   back = tt;
   quiet = refl;
+  stays = λ was. refl;
 }
 done_list state job receipt (told.NotDone back given) old new done =
-    record { same = same_list old new done.3; back = (done.1, done.2); quiet = refl }
+    record { same = same_list old new done.3; back = (done.1, done.2); quiet = refl; stays = λ was. refl }
 done_list state job receipt reply old new done = absurd done
 
 returned_list : {R : Type 0} (job : JobState) (reply : Reply R) (old new : ObjLogState) → Returns job reply old new
@@ -81,9 +117,10 @@ returned_list job told.Returned old new returned = record {
   same = subst (IsOfSameVolume old) (sym returned.1) (record { uuid = refl; geometry = refl });
   back = tt;
   quiet = refl;
+  stays = λ was. refl;
 }
 returned_list job (told.NotReturned back) old new returned =
-    record { same = same_list old new returned.2; back = returned.1; quiet = refl }
+    record { same = same_list old new returned.2; back = returned.1; quiet = refl; stays = λ was. refl }
 returned_list job reply old new returned = absurd returned
 
 -- ---- the volume with that list
@@ -101,6 +138,7 @@ module _ {R : Type 0} (state : R → ReceiptState) (old : VolumeState) (objects 
         step = steps;
         back = list.back;
         plan = plan;
+        copying = list.stays old.plan;
         sizes = record { geometry = list.same.geometry; uuid = list.same.uuid };
         numbers = numbers_grow state event reply old new plain shows steps counts;
         stops = objects_keep event old objects list.same;
@@ -152,7 +190,7 @@ module _ {R : Type 0} (state : R → ReceiptState) (old : VolumeState) (objects 
       let new : VolumeState = with_objects objects old in
       let geometry = ap (λ (b : BatchState). b.geometry) batch in
       step_of_list (Release given) told.Released
-      (record { same = record { uuid = left.uuid; geometry = geometry }; back = tt; quiet = refl }) tt
+      (record { same = record { uuid = left.uuid; geometry = geometry }; back = tt; quiet = refl; stays = λ was. refl }) tt
       (released_steps state given old objects uploads ascend some out batch) (counts_stay old new refl left.window)
       (same_bytes old new left.sealed left.frontier)
 
@@ -162,10 +200,11 @@ module _ {R : Type 0} (state : R → ReceiptState) (old : VolumeState) (objects 
 pub step_of_same : {R : Type 0} (state : R → ReceiptState) (event : Event R) (reply : Reply R) (volume : VolumeState)
     (plain : PlainState)
     → Shows volume plain → StepsAsPlain state event reply volume volume → HandsBack event reply → HasItsBytes event reply
-    → tells_fault reply ≡ false → StepOf state event reply volume volume
-step_of_same state event reply volume plain shows steps back plan quiet =
+    → tells_fault reply ≡ false → ((was : Option copies.PlanState) → ChangesPlan event reply was was)
+    → StepOf state event reply volume volume
+step_of_same state event reply volume plain shows steps back plan quiet stays =
     step_of_list state volume volume.objects plain shows event reply
-    (record { same = same_list volume.objects volume.objects refl; back = back; quiet = quiet }) plan steps
+    (record { same = same_list volume.objects volume.objects refl; back = back; quiet = quiet; stays = stays }) plan steps
     (counts_stay volume volume refl refl) (same_bytes volume volume refl refl)
 
 -- a plan comes back one of whose objects is not pinned
@@ -177,4 +216,4 @@ pub step_of_kept_plan : {R : Type 0} (state : R → ReceiptState) (old : VolumeS
 step_of_kept_plan state old objects plain shows given back ascend none same same_objects =
     subst₂ (λ b o. StepOf state (Release given) (told.NotReleased b) old (with_objects o old)) (sym same) (sym same_objects)
     (step_of_same state (Release given) (told.NotReleased given) old plain shows
-    (not_released_steps state given old ascend none) refl tt refl)
+    (not_released_steps state given old ascend none) refl tt refl (λ was. refl))

@@ -1,5 +1,6 @@
 -- For this crate's own clauses: the calls of the log and of the list that an event makes.
-use Rattle.std.specs.Prelude.{◌≡◌, ℕ, ◌+◌, ◌-◌, ◌^◌, ◌<◌, ◌≤◌, ◌⊎◌, IsTrue, [], IfOk, IfErr, Option, Some, None, Bool, true}
+use Rattle.std.specs.Prelude.{◌≡◌, ℕ, ◌+◌, ◌-◌, ◌^◌, ◌<◌, ◌≤◌, ◌⊎◌, IsTrue, []}
+use Rattle.std.specs.Prelude.{IfOk, IfErr, IfSome, IsSome, List, Option, Some, None, Bool, true}
 use Rattle.std.specs.Prelude.{false, Result, Ok, Err, length}
 use Rattle.lsvd_base.specs.declared.entry.Entry.{Entry}
 use Rattle.lsvd_base.specs.Range.{is_in_range}
@@ -15,12 +16,19 @@ use Rattle.cache_log.specs.Committed.{body_of, KeepsCommits, HasSameList, IsRele
 use Rattle.cache_log.specs.Committed.{IsOnDisk}
 use Rattle.object_stream.specs.Replay.{object_name}
 use Rattle.obj_log.specs.State.{ObjLogState}
-use Rattle.obj_log.specs.Changes.{HasRoomToAdd, IsSame, IsAdded, HasSealedObject, expected_of_volume}
+use Rattle.obj_log.specs.Changes.{HasRoomToAdd, IsSame, IsAdded, HasSealedObject, HasSealedCopy, expected_of_volume}
 use Rattle.lsvd_objstore.specs.Store.{ReceiptState}
 use Rattle.upload_window.specs.Window.{lowest_ready}
 use Rattle.object_uploads.specs.State.{JobState}
 use Rattle.object_uploads.specs.Changes.{with_job, IsJobOf, IsOut, IsPutDone}
 use Rattle.object_uploads.specs.Checkpoint.{HasSealedCheckpoint}
+use Rattle.object_uploads.specs.Collection.{HasPlan, HasPlanned, with_copied_all}
+use Rattle.object_uploads.specs.Order.{IsUploads}
+use Rattle.object_table.specs.Table.{candidates}
+use Rattle.gc_copier.specs.Plan.{PlanState, numbers_of, sectors_of}
+use Rattle.object_format.specs.declared.copy_row.CopyRow.{CopyRow}
+use Rattle.object_format.specs.Rows.{copy_rows_may_stand}
+use Rattle.gc_copier.specs.Copying.{CopiedState, IsCopyOf}
 use Rattle.object_uploads.specs.Removal.{IsRemovedNext, TakesRemoval, FinishesRemoval, TakesBackRemoval}
 use Rattle.lsvd_base.specs.Limits.{is_within_limits}
 use Rattle.log_room.specs.Room.{max_log, record_sectors}
@@ -33,6 +41,9 @@ use Rattle.vol_core.specs.declared.reply.EntryRefusal.{EntryRefusal}
 use Rattle.vol_core.specs.declared.reply.EntryRefusal.TheVariants as refusals
 use Rattle.vol_core.specs.declared.reply.Reply.{Reply}
 use Rattle.vol_core.specs.declared.reply.Reply.TheVariants as replies
+use Rattle.vol_core.specs.declared.reply.SealRefusal.{SealRefusal}
+use Rattle.vol_core.specs.declared.reply.SealRefusal.TheVariants as seal_refusals
+use Rattle.vol_core.specs.Events.{IsPlanned}
 use Rattle.refine_log.specs.Laws.{CostsCommit}
 
 -- the event of an entry
@@ -187,7 +198,63 @@ Returns job replies.Returned old new =
 Returns job (replies.NotReturned back) old new = (IsOut old.uploads job.name.number job.bytes → ⊥) × (back ≡ job) × (new ≡ old)
 Returns job reply old new = ⊥
 
--- ---- checkpoints and removals
+-- ---- copies, checkpoints and removals
+
+-- a copy was to be planned
+abbrev pub Plans : {R : Type 0} → Reply R → (was out : Option PlanState) → (old new : ObjLogState) → Type 0
+Plans (replies.Copying plan) was out old new =
+    (was ≡ None) × (out ≡ Some plan) × HasPlan old.batch.geometry.batch plan old.uploads
+    × (new.uploads ≡ with_copied_all true (numbers_of plan.sources) old.uploads) × (new.batch ≡ old.batch)
+Plans replies.Nothing was out old new =
+    (was ≡ None) × (out ≡ None) × HasPlanned old.batch.geometry.batch old.uploads None × (new ≡ old)
+Plans replies.Busy was out old new = IsSome was × (out ≡ was) × (new ≡ old)
+Plans replies.OutOfMemory was out old new =
+    (was ≡ None) × (out ≡ None) × (candidates old.uploads.queue.maps.objects.rows ≡ [] → ⊥) × (new ≡ old)
+Plans reply was out old new = ⊥
+
+-- the rows of the plan that is out may stand in the next object of a list, which has 65,536 at most
+pub record RowsMayStand (objects : ObjLogState) (rows : List CopyRow) : Type 0 where
+  pub count : length rows ≤ 65536
+  pub stand : IsTrue
+      (copy_rows_may_stand objects.batch.geometry.sectors (sectors_of rows) (objects.uploads.window.last + 1) None 0 rows)
+
+abbrev pub MayStandNext : (out : Option PlanState) → ObjLogState → Type 0
+MayStandNext out objects = IfSome out (λ (plan : PlanState). RowsMayStand objects plan.rows)
+
+-- why what was copied was not sealed: nothing changed but room
+abbrev pub RefusesCopy : SealRefusal → CopiedState → (was out : Option PlanState) → (old new : ObjLogState) → Type 0
+RefusesCopy seal_refusals.NotPlanned copied was out old new = (IsPlanned was copied → ⊥) × (out ≡ was) × (new ≡ old)
+RefusesCopy seal_refusals.Busy copied was out old new =
+    IsPlanned was copied × (length old.uploads.window.objects ≡ 16) × (out ≡ was) × (new ≡ old)
+RefusesCopy seal_refusals.OutOfMemory copied was out old new =
+    IsPlanned was copied × (length old.uploads.window.objects ≡ 16 → ⊥) × (out ≡ was) × IsSame old new
+
+-- what was copied was sealed, and the plan ended
+pub record SealsPlanned (copied : CopiedState) (number : ℕ) (was out : Option PlanState) (old new : ObjLogState) : Type 0 where
+  pub plan : PlanState
+  pub was_out : was ≡ Some plan
+  pub of : IsCopyOf plan copied
+  pub free : length old.uploads.window.objects ≡ 16 → ⊥
+  pub sealed : ObjLogState
+  pub seals : HasSealedCopy copied old sealed
+  pub order : IsUploads sealed.uploads
+  pub ended : new.uploads ≡ with_copied_all false (numbers_of plan.sources) sealed.uploads
+  pub batch : new.batch ≡ sealed.batch
+  pub none_out : out ≡ None
+  pub number_is : number ≡ old.uploads.window.last + 1
+
+abbrev pub SealsCopy : {R : Type 0} → CopiedState → Reply R → (was out : Option PlanState) → (old new : ObjLogState) → Type 0
+SealsCopy copied (replies.Sealed number) was out old new = SealsPlanned copied number was out old new
+SealsCopy copied (replies.NotSealed back why) was out old new = (back ≡ copied) × RefusesCopy why copied was out old new
+SealsCopy copied reply was out old new = ⊥
+
+-- the plan that is out was to be given up
+abbrev pub Drops : {R : Type 0} → Reply R → (was out : Option PlanState) → (old new : ObjLogState) → Type 0
+Drops replies.Dropped was out old new =
+    (plan : PlanState) × (was ≡ Some plan) × (out ≡ None)
+    × (new.uploads ≡ with_copied_all false (numbers_of plan.sources) old.uploads) × (new.batch ≡ old.batch)
+Drops replies.Nothing was out old new = (was ≡ None) × (out ≡ None) × (new ≡ old)
+Drops reply was out old new = ⊥
 
 -- a checkpoint was to be sealed
 abbrev pub SealsCheckpoint : {R : Type 0} → Reply R → (old new : ObjLogState) → Type 0

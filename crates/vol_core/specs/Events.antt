@@ -1,12 +1,18 @@
 -- Contract: what an event asks of the plain volume, and which of its replies a reply tells.
-use Rattle.std.specs.Prelude.{◌≡◌, ℕ, ◌⊎◌, Option, Some, None, IfSome}
+use Rattle.std.specs.Prelude.{◌≡◌, ℕ, ◌⊎◌, Bool, true, false, Option, Some, None, IfSome, List, length}
 use Rattle.lsvd_objstore.specs.Store.{ReceiptState}
 use Rattle.object_stream.specs.Replay.{object_name}
 use Rattle.object_uploads.specs.State.{JobState}
 use Rattle.object_uploads.specs.Changes.{IsOut, IsJobOf}
 use Rattle.obj_log.specs.Changes.{expected_of_volume}
 use Rattle.batcher.specs.declared.full.Full.TheVariants as full
-use Rattle.read_plan.specs.Plan.{PlanState, Gives}
+use Rattle.gc_copier.specs.Plan.{PlanState, sectors_of}
+use Rattle.gc_copier.specs.Copying.{CopiedState}
+use Rattle.object_stream.specs.declared.object.CopiedSector.{CopiedSector}
+use Rattle.object_stream.specs.Replay.{source_at}
+use Rattle.object_stream.specs.Stream.{source_in}
+use Rattle.read_plan.specs.Plan.{Gives}
+use Rattle.read_plan.specs.Plan as reads
 use Rattle.plain_disk.specs.declared.event.PlainEvent.{PlainEvent}
 use Rattle.plain_disk.specs.declared.event.PlainEvent.TheVariants as events
 use Rattle.plain_disk.specs.declared.event.PlainReply.{PlainReply}
@@ -14,10 +20,14 @@ use Rattle.plain_disk.specs.declared.event.PlainReply.TheVariants as replies
 use Rattle.plain_disk.specs.declared.event.PlannedRead.{PlannedRead}
 use Rattle.vol_core.specs.declared.event.Event.{Event}
 use Rattle.vol_core.specs.declared.event.Event.TheVariants.{Write, Zero, Flush, Look, Release, Seal, TakeJob, JobDone, JobFailed}
-use Rattle.vol_core.specs.declared.event.Event.TheVariants.{SealCheckpoint, TakeRemove, RemoveDone, RemoveFailed, Status}
+use Rattle.vol_core.specs.declared.event.Event.TheVariants.{SealCheckpoint, TakeRemove, RemoveDone}
+use Rattle.vol_core.specs.declared.event.Event.TheVariants.{RemoveFailed, PlanCopy, SealCopy}
+use Rattle.vol_core.specs.declared.event.Event.TheVariants.{DropPlan, Status}
 use Rattle.vol_core.specs.declared.reply.EntryRefusal.{EntryRefusal}
 use Rattle.vol_core.specs.declared.reply.EntryRefusal.TheVariants as refusals
 use Rattle.vol_core.specs.declared.reply.Reply.{Reply}
+use Rattle.vol_core.specs.declared.reply.SealRefusal.{SealRefusal}
+use Rattle.vol_core.specs.declared.reply.SealRefusal.TheVariants as seal_refusals
 use Rattle.vol_core.specs.declared.reply.Reply.TheVariants as told
 use Rattle.vol_core.specs.Volume.{VolumeState}
 
@@ -45,6 +55,16 @@ IsOfRemoval volume receipt number =
     ⊎ (((other : ℕ) → receipt.name ≡ object_name (expected_of_volume volume.objects) other → ⊥)
     × (volume.objects.uploads.queue.removal ≡ Some number → ⊥))
 
+-- what was copied has the rows and the sources of the plan that is out
+abbrev pub IsPlanned : Option PlanState → CopiedState → Type 0
+IsPlanned None copied = ⊥
+IsPlanned (Some plan) copied = (copied.rows ≡ plan.rows) × (copied.sources ≡ plan.sources)
+
+-- so it was copied by that plan, or it was not
+abbrev pub IsOfPlan : VolumeState → CopiedState → (is_planned : Bool) → Type 0
+IsOfPlan volume copied true = IsPlanned volume.plan copied
+IsOfPlan volume copied false = IsPlanned volume.plan copied → ⊥
+
 -- an event of a volume asks for that of the plain volume
 abbrev pub Asks : {R : Type 0} → (R → ReceiptState) → VolumeState → Event R → PlainEvent → Type 0
 Asks state volume (Write lba body) event = event ≡ events.Write lba body
@@ -62,6 +82,10 @@ Asks state volume TakeRemove event = event ≡ events.TakeRemove
 Asks state volume (RemoveDone number) event = event ≡ events.RemoveDone number
 Asks state volume (RemoveFailed receipt) event = (number : ℕ) × (event ≡ events.RemoveFailed number)
     × IsOfRemoval volume (state receipt) number
+Asks state volume PlanCopy event = event ≡ events.PlanCopy
+Asks state volume (SealCopy copied) event =
+    (is_planned : Bool) × (event ≡ events.SealCopy is_planned) × IsOfPlan volume copied is_planned
+Asks state volume DropPlan event = event ≡ events.DropPlan
 Asks state volume Status event = event ≡ events.Status
 
 -- ---- replies
@@ -75,8 +99,19 @@ TellsRefusal (refusals.NoRoom need free) reply = reply ≡ replies.NoRoom need f
 TellsRefusal refusals.Fault reply = reply ≡ replies.Fault
 TellsRefusal refusals.OutOfMemory reply = ⊥
 
+-- why what was copied was not sealed is told so too
+abbrev pub TellsSealRefusal : SealRefusal → PlainReply → Type 0
+TellsSealRefusal seal_refusals.NotPlanned reply = reply ≡ replies.Nothing
+TellsSealRefusal seal_refusals.Busy reply = reply ≡ replies.Busy
+TellsSealRefusal seal_refusals.OutOfMemory reply = ⊥
+
+-- the plan of a copy takes these sectors from their sources, and no others
+pub record TellsCopy (plan : PlanState) (sectors : List CopiedSector) : Type 0 where
+  pub takes : (k : ℕ) → source_at plan.rows k ≡ source_in sectors k
+  pub count : sectors_of plan.rows ≡ length sectors
+
 -- a plan tells what the plain volume says of a read: it gives the data, where the disk tells the entries of the log's list
-pub record TellsRead (volume : VolumeState) (plan : PlanState) (read : PlannedRead) : Type 0 where
+pub record TellsRead (volume : VolumeState) (plan : reads.PlanState) (read : PlannedRead) : Type 0 where
   pub history_length : plan.history_length ≡ read.history_length
   pub objects : plan.objects ≡ read.objects
   pub gives : IfSome volume.log.entries (λ list. Gives plan read.data)
@@ -103,6 +138,10 @@ Tells state volume (told.Removing receipt) reply =
 Tells state volume told.Removed reply = reply ≡ replies.Removed
 Tells state volume told.GivenBack reply = reply ≡ replies.GivenBack
 Tells state volume (told.NotGivenBack receipt) reply = reply ≡ replies.Nothing
+Tells state volume (told.Copying plan) reply =
+    (sectors : List CopiedSector) × (reply ≡ replies.Copying sectors) × TellsCopy plan sectors
+Tells state volume (told.NotSealed copied why) reply = TellsSealRefusal why reply
+Tells state volume told.Dropped reply = reply ≡ replies.Dropped
 Tells state volume (told.Told writes sealed frontier checkpoint) reply = reply ≡ replies.Told writes sealed frontier checkpoint
 Tells state volume told.Range reply = reply ≡ replies.Range
 Tells state volume told.Nothing reply = reply ≡ replies.Nothing

@@ -12,17 +12,19 @@ use Rattle.refine_log.specs.Fuses.{fuse_in}
 use Rattle.refine_log.specs.Logged.{HasLoggedEntries}
 use Rattle.refine_objects.specs.Shows.{ShowsObjects}
 use Rattle.refine_objects.specs.Table.{ShowsTable}
+use Rattle.refine_objects.specs.Plan.{ShowsPlan}
 use Rattle.vol_core.specs.Volume.{VolumeState, SteppedVolume}
 
 -- A volume shows a plain volume: the list of its entries and objects shows those, and the table of its objects which of them
--- stand in the store, which are pinned, and what the newest checkpoint maps; the log on its cache shows the plain log, and the
--- device passes the calls that the plain one does, where it tells them. So numbers and counts are the plain volume's always, and
--- bytes where the device and the receipts tell them.
+-- stand in the store, which are pinned, and what the newest checkpoint maps; the plan of a copy that is out is that of the plain
+-- volume; the log on its cache shows the plain log, and the device passes the calls that the plain one does, where it tells them.
+-- So numbers and counts are the plain volume's always, and bytes where the device and the receipts tell them.
 pub record Shows (volume : VolumeState) (plain : PlainState) : Type 0 where
   pub valid : IsPlainVolume plain
   pub data_at : ℕ → ℕ
   pub objects : ShowsObjects data_at volume.objects plain
   pub table : ShowsTable volume.objects.uploads.queue plain
+  pub plan : ShowsPlan volume.objects.uploads.queue volume.plan plain
   pub log : ShowsLog volume.log plain.cache.log
   pub logged : HasLoggedEntries data_at volume.log plain
   pub fuse : plain.cache.left ≡ fuse_in volume.log.commits.disk.budget

@@ -1,5 +1,5 @@
 -- Contract: what a step of a volume is: one step of the plain volume that it shows.
-use Rattle.std.specs.Prelude.{◌≡◌, ℕ, ◌+◌, ◌*◌, ◌⊎◌, Bool, true, false, List, length}
+use Rattle.std.specs.Prelude.{◌≡◌, ℕ, ◌+◌, ◌*◌, ◌⊎◌, Bool, true, false, Option, Some, None, List, length}
 use Rattle.std.specs.List.{list_any}
 use Rattle.lsvd_base.specs.declared.entry.Entry.TheVariants as entries
 use Rattle.lsvd_fault.specs.Faults.{Counts}
@@ -12,6 +12,7 @@ use Rattle.object_uploads.specs.Queue.{HasBytesAt}
 use Rattle.object_uploads.specs.Changes.{index_of}
 use Rattle.object_uploads.specs.Image.{IsReceiptFor, TellAlike}
 use Rattle.stopped_volume.specs.Store.{TellsBytes}
+use Rattle.gc_copier.specs.Plan.{PlanState}
 use Rattle.refine_log.specs.Pending.{ShowsPending}
 use Rattle.plain_disk.specs.declared.event.PlainEvent.{PlainEvent}
 use Rattle.plain_disk.specs.State.{PlainState}
@@ -19,8 +20,10 @@ use Rattle.plain_disk.specs.Step.{plain_reply, plain_after, is_refusal}
 use Rattle.refine_log.specs.Fuses.{fuse_in}
 use Rattle.vol_core.specs.declared.event.Event.{Event}
 use Rattle.vol_core.specs.declared.event.Event.TheVariants.{Write, Zero, Flush, Look, Release, Seal, JobDone, JobFailed}
-use Rattle.vol_core.specs.declared.event.Event.TheVariants.{SealCheckpoint, RemoveFailed}
+use Rattle.vol_core.specs.declared.event.Event.TheVariants.{SealCheckpoint, RemoveFailed, PlanCopy, SealCopy}
+use Rattle.vol_core.specs.declared.event.Event.TheVariants.{DropPlan}
 use Rattle.vol_core.specs.declared.reply.EntryRefusal.TheVariants as refusals
+use Rattle.vol_core.specs.declared.reply.SealRefusal.TheVariants as seal_refusals
 use Rattle.vol_core.specs.declared.reply.Reply.{Reply}
 use Rattle.vol_core.specs.declared.reply.Reply.TheVariants as told
 use Rattle.vol_core.specs.Volume.{VolumeState, SteppedVolume}
@@ -61,10 +64,13 @@ may_lack_memory (Zero lba sectors) = true
 may_lack_memory (Look lba sectors) = true
 may_lack_memory Seal = true
 may_lack_memory SealCheckpoint = true
+may_lack_memory PlanCopy = true
+may_lack_memory (SealCopy copied) = true
 may_lack_memory event = false
 
 abbrev pub lacks_memory : {R : Type 0} → Reply R → Bool
 lacks_memory (told.NotEntered entry refusals.OutOfMemory) = true
+lacks_memory (told.NotSealed copied seal_refusals.OutOfMemory) = true
 lacks_memory told.OutOfMemory = true
 lacks_memory reply = false
 
@@ -82,7 +88,7 @@ CountsFault reply old new = Counts (tells_fault reply) old.log.commits.disk.faul
 
 -- ---- what is handed back
 
--- a reply hands back the entry, the plan, the job or the receipt of an event that was not carried out
+-- a reply hands back the entry, the plan, the job, the receipt or the copy of an event that was not carried out
 abbrev pub HandsBack : {R : Type 0} → Event R → Reply R → Type 0
 HandsBack (Write lba body) (told.NotEntered entry why) = entry ≡ entries.Write lba body
 HandsBack (Zero lba sectors) (told.NotEntered entry why) = entry ≡ entries.Zero lba sectors
@@ -90,6 +96,7 @@ HandsBack (Release plan) (told.NotReleased back) = back ≡ plan
 HandsBack (JobDone job receipt) (told.NotDone back given) = (back ≡ job) × (given ≡ receipt)
 HandsBack (JobFailed job) (told.NotReturned back) = back ≡ job
 HandsBack (RemoveFailed receipt) (told.NotGivenBack back) = back ≡ receipt
+HandsBack (SealCopy copied) (told.NotSealed back why) = back ≡ copied
 HandsBack event reply = Unit {0}
 
 -- ---- a plan
@@ -98,6 +105,15 @@ HandsBack event reply = Unit {0}
 abbrev pub HasItsBytes : {R : Type 0} → Event R → Reply R → Type 0
 HasItsBytes (Look lba sectors) (told.Planned plan) = length plan.bytes ≡ 512 * sectors
 HasItsBytes event reply = Unit {0}
+
+-- ---- the plan of a copy
+
+-- A plan that a reply tells is out then. It ends where what was copied is sealed, and where it is given up; and else it stays.
+abbrev pub ChangesPlan : {R : Type 0} → Event R → Reply R → (was out : Option PlanState) → Type 0
+ChangesPlan PlanCopy (told.Copying plan) was out = out ≡ Some plan
+ChangesPlan (SealCopy copied) (told.Sealed number) was out = out ≡ None
+ChangesPlan DropPlan told.Dropped was out = out ≡ None
+ChangesPlan event reply was out = out ≡ was
 
 -- ---- a step
 
@@ -163,8 +179,8 @@ KeepsBytes old new =
 -- ---- what a step promises
 
 -- What a step is of an event: its reply, and the volume after it. It is one of the plain volume, hands back what it did not use,
--- and gives a plan all its bytes. It changes no size, and lets the numbers grow by one entry, one object, two commits and a pin
--- on each object at most.
+-- gives a plan all its bytes, and changes the plan of a copy that is out as its reply tells. It changes no size, and lets the
+-- numbers grow by one entry, one object, two commits and a pin on each object at most.
 -- A stop at each of its moments leaves a commit of the plain volume before it, a failed call is counted once and told, and bytes
 -- on their way stay.
 pub record StepOf {R : Type 0} (state : R → ReceiptState) (event : Event R) (reply : Reply R) (old new : VolumeState) :
@@ -172,6 +188,7 @@ pub record StepOf {R : Type 0} (state : R → ReceiptState) (event : Event R) (r
   pub step : StepsAsPlain state event reply old new
   pub back : HandsBack event reply
   pub plan : HasItsBytes event reply
+  pub copying : ChangesPlan event reply old.plan new.plan
   pub sizes : HasSameSizes old new
   pub numbers : NumbersGrow old new
   pub stops : StepKeeps event old new

@@ -1,3 +1,4 @@
+use gc_copier::Copied;
 use lsvd_base::Body;
 use lsvd_objstore::Receipt;
 use object_uploads::Job;
@@ -33,6 +34,12 @@ pub enum Event<R: Receipt> {
     RemoveDone { number: u64 },
     /// The removal of the object that the receipt names failed. The receipt serves a later removal of it.
     RemoveFailed(R),
+    /// Plans a copy: which live sectors a collection takes from which objects.
+    PlanCopy,
+    /// Seals what was copied by the plan that is out, which ends.
+    SealCopy(Copied<R>),
+    /// Gives up the plan that is out.
+    DropPlan,
     /// Asks for the counts.
     Status,
 }

@@ -1,5 +1,6 @@
 use batcher::Full;
 use cache_log::AppendError;
+use gc_copier::{Copied, GcPlan};
 use lsvd_base::Entry;
 use lsvd_objstore::Receipt;
 use object_uploads::Job;
@@ -47,6 +48,17 @@ impl From<AppendError> for EntryRefusal {
     }
 }
 
+/// Why what was copied was not sealed.
+#[derive(Clone, Copy, Debug, PartialEq, Eq)]
+pub enum SealRefusal {
+    /// It was not copied by the plan that is out, or none is out.
+    NotPlanned,
+    /// 16 objects are on their way to the store.
+    Busy,
+    /// Memory ran out; nothing was done.
+    OutOfMemory,
+}
+
 /// What a volume answers. What the event owned is handed back where it was not carried out.
 #[derive(Drop)]
 pub enum Reply<R: Receipt> {
@@ -89,6 +101,16 @@ pub enum Reply<R: Receipt> {
     GivenBack,
     /// The removal of the object that this names is not out.
     NotGivenBack(R),
+    /// The plan of a copy. The objects that it takes sectors from are not removed until its copy is sealed or
+    /// it is given up.
+    Copying(GcPlan<R>),
+    /// What was copied was not sealed.
+    NotSealed {
+        copied: Copied<R>,
+        why: SealRefusal,
+    },
+    /// The plan is given up.
+    Dropped,
     /// How many entries the history has, and the numbers of the last object that was sealed, of the frontier,
     /// and of the newest checkpoint that was sealed.
     Told {
@@ -99,9 +121,9 @@ pub enum Reply<R: Receipt> {
     },
     /// The volume does not take a read of these sectors.
     Range,
-    /// There is nothing to seal, to put or to remove, or the removal is not out.
+    /// There is nothing to seal, to put, to remove, to copy or to give up, or the removal is not out.
     Nothing,
-    /// 16 objects are on their way to the store.
+    /// 16 objects are on their way to the store, or, for a plan of a copy, one is out.
     Busy,
     /// A call of the device failed.
     Fault,

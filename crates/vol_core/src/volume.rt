@@ -16,6 +16,7 @@ ghost use Rattle.vol_core.specs.Step.{passing, HasItsReceipt, StepOf, CountedSte
 ghost use Rattle.vol_core.specs.Stops.{HasOwnCommits, KeepsNow};
 ghost use Rattle.vol_core.specs.Calls.{IsReadyForStep, event_of};
 
+use crate::collecting::{drop_plan, plan_copy, seal_copy};
 use crate::committing::commit;
 use crate::entering::enter;
 use crate::event::Event;
@@ -23,6 +24,7 @@ use crate::putting::{job_done, job_failed, seal, seal_checkpoint, take_job};
 use crate::removing::{remove_done, remove_failed, take_remove};
 use crate::reply::Reply;
 use cache_log::CacheLog;
+use gc_copier::{Copied, GcPlan};
 use lsvd_base::{Entry, Geometry};
 use lsvd_device::Disk;
 use lsvd_fault::Failed;
@@ -34,30 +36,35 @@ use std::alloc::Global;
 use std::marker::Model;
 use uuid::Uuid;
 
-/// A volume: its entries and objects, and the log on its cache device `D`. A store gives receipts `R` for its
-/// objects.
+/// A volume: its entries and objects, the log on its cache device `D`, and the plan of a copy that is out. A
+/// store gives receipts `R` for its objects.
 #[derive(Drop)]
 pub struct Volume<D: Disk, R: Receipt> {
     alloc: Global,
     objects: ObjLog<R>,
     log: CacheLog<D>,
+    plan: Option<GcPlan<R>>,
     steps: u64,
 }
 
 impl<D: Disk, R: Receipt> Model for Volume<D, R> {
-    ghost use Rattle.vol_core.specs.Volume.{SteppedVolume, volume_of};
+    ghost use Rattle.vol_core.specs.Volume.{SteppedVolume, volume_with};
     ghost use Rattle.vol_core.specs.Shows.{IsVolume};
 
     ghost Value = { SteppedVolume };
 
-    ghost view = { λ v. record { volume = volume_of v.objects v.log; steps = v.steps } };
+    ghost view = { λ v. record { volume = volume_with v.objects v.log v.plan; steps = v.steps } };
 
-    ghost invariant = { λ v. IsVolume (record { volume = volume_of v.objects v.log; steps = v.steps }) };
+    ghost invariant = { λ v. IsVolume (record {
+      volume = volume_with v.objects v.log v.plan;
+      steps = v.steps;
+    }) };
 }
 
 impl<D: Disk, R: Receipt> Volume<D, R> {
     /// The volume of these entries and objects and this log, which together show a plain volume, and whose
-    /// numbers are below 2^60, with no object pinned (conditions). It has made no step.
+    /// numbers are below 2^60, with no object pinned (conditions). It has made no step, and no plan of a copy
+    /// is out.
     pub fn new(alloc: Global, objects: ObjLog<R>, log: CacheLog<D>) -> Volume<D, R>
         requires shows { (plain : PlainState) × Shows (volume_of objects log) plain }
         requires small { IsSmall (volume_of objects log) 0 }
@@ -67,6 +74,7 @@ impl<D: Disk, R: Receipt> Volume<D, R> {
             alloc,
             objects,
             log,
+            plan: None,
             steps: 0,
         }
     }
@@ -81,9 +89,9 @@ impl<D: Disk, R: Receipt> Volume<D, R> {
     /// of sectors that a write past the frontier's end wrote last; `Fault` is told exactly where one of them
     /// failed, which the device counted once. Where the device has room for them, as many writes are pending
     /// on it after the step as on the plain volume's cache, if so many were before. A step adds an entry and
-    /// an object at most, makes two commits at most, and pins each object once at most. What is so of every
-    /// volume is told of the one before the step, with the order of its log and its uploads and with what its
-    /// receipts tell, and of the one after it.
+    /// an object at most, makes two commits at most, and pins each object once at most. The plan of a copy
+    /// that is out changes as the reply tells. What is so of every volume is told of the one before the step,
+    /// with the order of its log and its uploads and with what its receipts tell, and of the one after it.
     pub fn step(&mut self, event: Event<R>) -> Reply<R>
         requires steps { self.old.steps < max_number }
         requires receipt { HasItsReceipt R.state event }
@@ -205,6 +213,9 @@ impl<D: Disk, R: Receipt> Volume<D, R> {
             Event::TakeRemove => self.take_remove(),
             Event::RemoveDone { number } => self.remove_done(number),
             Event::RemoveFailed(receipt) => self.remove_failed(receipt),
+            Event::PlanCopy => self.plan_copy(),
+            Event::SealCopy(copied) => self.seal_copy(copied),
+            Event::DropPlan => self.drop_plan(),
             Event::Status => self.status(),
         }
     }
@@ -332,6 +343,33 @@ impl<D: Disk, R: Receipt> Volume<D, R> {
         ensures steps { self.new.steps ≡ self.old.steps }
     {
         remove_failed(&mut self.objects, receipt)
+    }
+
+    // Plans a copy.
+    fn plan_copy(&mut self) -> Reply<R>
+        requires { IsReadyForStep self.old }
+        ensures step { StepOf R.state events.PlanCopy result self.old.volume self.new.volume }
+        ensures steps { self.new.steps ≡ self.old.steps }
+    {
+        plan_copy(self.alloc, &mut self.objects, &mut self.plan)
+    }
+
+    // Seals what was copied by the plan that is out.
+    fn seal_copy(&mut self, copied: Copied<R>) -> Reply<R>
+        requires { IsReadyForStep self.old }
+        ensures step { StepOf R.state (events.SealCopy copied) result self.old.volume self.new.volume }
+        ensures steps { self.new.steps ≡ self.old.steps }
+    {
+        seal_copy(self.alloc, &mut self.objects, &mut self.plan, copied)
+    }
+
+    // Gives up the plan that is out.
+    fn drop_plan(&mut self) -> Reply<R>
+        requires { IsReadyForStep self.old }
+        ensures step { StepOf R.state events.DropPlan result self.old.volume self.new.volume }
+        ensures steps { self.new.steps ≡ self.old.steps }
+    {
+        drop_plan(&mut self.objects, &mut self.plan)
     }
 
     // Tells the counts.

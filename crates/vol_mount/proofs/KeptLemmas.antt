@@ -293,7 +293,7 @@ module _ (uuid : List ℕ) (geometry : Geometry) (epoch : ℕ) (list : ObjLogSta
       added_are_logged geometry checkpoint end_is plain done.entries found_log new a_row rest (done.same.first
       ∙ trimmed_first) rows told
       done.numbered in
-      shown place_of objects new now valid of_objects of_table shows_log
+      shown place_of objects new now valid rest.no_plan of_objects of_table shows_log
       (subst (λ d. HasLoggedEntries d new now) data_same logged)
 
   pub kept_shows_some : (plain : PlainState) × Shows (volume_of objects new) plain
@@ -368,6 +368,7 @@ module _ (uuid : List ℕ) (geometry : Geometry) (epoch : ℕ) (list : ObjLogSta
         none_sealed = added.objects.sealed ∙ is.list.sealed;
         plans = unpinned;
         none_out = added.objects.removal ∙ is.table.removal;
+        no_plan = refl;
       }
 
   pub numbers_next : NumbersNextCommit geometry.log old (mounted_of objects new)

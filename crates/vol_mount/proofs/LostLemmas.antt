@@ -88,7 +88,8 @@ module _ (uuid : List ℕ) (geometry : Geometry) (epoch : ℕ) (list : ObjLogSta
   lost_shows plain rest shows table =
       let of_log : ShowsLog log plain.cache.log = subst (λ (cache : PlainCache). ShowsLog log cache.log) (sym rest.cache)
       shows_empty in
-      shown (data_in log a_row) list log plain rest.valid (shows (data_in log a_row)) table of_log (logs_none plain rest)
+      shown (data_in log a_row) list log plain rest.valid rest.no_plan (shows (data_in log a_row)) table of_log
+      (logs_none plain rest)
 
   pub lost_shows_some : (plain : PlainState) × Shows (volume_of list log) plain
   lost_shows_some =
@@ -123,6 +124,7 @@ module _ (uuid : List ℕ) (geometry : Geometry) (epoch : ℕ) (list : ObjLogSta
         none_sealed = is.list.sealed;
         plans = no_pins list.uploads.queue checkpoint is.table;
         none_out = is.table.removal;
+        no_plan = refl;
       }
 
   -- its history has the entries of the objects

@@ -33,7 +33,7 @@ NumbersNextCommit log old mounted =
     → mounted.volume.volume.log.commits.number ≡ number + 1) old.moments
 
 -- It is the volume that was asked for, has made no step, and its commits are of this owner, which has its uuid. Each of its
--- objects is acknowledged, no plan of a read is out, and no removal.
+-- objects is acknowledged, no plan of a read and none of a copy is out, and no removal.
 pub record IsOfVolume (owner : CacheOwner) (geometry : Geometry) (mounted : MountedState) : Type 0 where
   pub uuid_is : mounted.volume.volume.objects.uploads.uuid ≡ owner.uuid
   pub geometry_is : mounted.volume.volume.objects.batch.geometry ≡ geometry
@@ -44,6 +44,7 @@ pub record IsOfVolume (owner : CacheOwner) (geometry : Geometry) (mounted : Moun
   pub none_sealed : mounted.volume.volume.objects.uploads.queue.sealed ≡ []
   pub plans : HasNoPins mounted.volume.volume
   pub none_out : removal_out mounted.volume.volume ≡ None
+  pub no_plan : mounted.volume.volume.plan ≡ None
 
 -- It shows a plain volume, whose device passes the calls that its own does, with its objects up to a number; and it knows the
 -- objects that the store had up to there.

@@ -48,8 +48,8 @@ tells_reply replies.Returned answer text says tells = absurd says
 tells_reply (replies.Removing number) answer text says tells = subst (λ a. TellsAnswer a text) says tells
 tells_reply replies.Removed answer text says tells = absurd says
 tells_reply replies.GivenBack answer text says tells = absurd says
-tells_reply (replies.Copying sectors) answer text says tells = absurd says
-tells_reply replies.Dropped answer text says tells = absurd says
+tells_reply (replies.Copying sectors) answer text says tells = subst (λ a. TellsAnswer a text) says tells
+tells_reply replies.Dropped answer text says tells = subst (λ a. TellsAnswer a text) says tells
 tells_reply (replies.Told writes sealed frontier checkpoint) answer text says tells = subst (λ a. TellsAnswer a text) says tells
 tells_reply (replies.BatchFull sectors) answer text says tells = subst (λ a. TellsAnswer a text) says tells
 tells_reply (replies.EntriesFull count) answer text says tells = subst (λ a. TellsAnswer a text) says tells
@@ -115,6 +115,42 @@ pub failed_not_allowed : (number : ℕ) (result : Bool) (rig : RigState) → res
 failed_not_allowed number result rig is tells None shown = absurd shown
 failed_not_allowed number result rig is tells (Some plain) shown =
     λ out. put_is_not_out number result rig plain is shown (tells plain shown) out
+
+-- ---- the end of a plan
+
+-- the plan of a copy is out in each plain volume that the rig shows
+abbrev pub HasPlanOut : RigState → Type 0
+HasPlanOut rig = (plain : PlainState) → ShowsPlain rig plain → IsTrue (is_some plain.plan)
+
+pub plan_is_out : (result : Bool) (rig : RigState) → result ≡ true
+    → ((plain : PlainState) → ShowsPlain rig plain → result ≡ is_some plain.plan) → HasPlanOut rig
+plan_is_out result rig is tells plain shown = sym (tells plain shown) ∙ is
+
+plan_is_not_out : (result : Bool) (plain : PlainState) → result ≡ false → result ≡ is_some plain.plan
+    → IsTrue (is_some plain.plan) → ⊥
+plan_is_not_out result plain is tells out = cc
+
+pub seal_not_allowed : (result : Bool) (rig : RigState) → result ≡ false
+    → ((plain : PlainState) → ShowsPlain rig plain → result ≡ is_some plain.plan)
+    → IsUnanswered (Some rig) commands.SealCopy (Bad NotAllowed)
+seal_not_allowed result rig is tells None shown = absurd shown
+seal_not_allowed result rig is tells (Some plain) shown = λ out. plan_is_not_out result plain is (tells plain shown) out
+
+pub drop_not_allowed : (result : Bool) (rig : RigState) → result ≡ false
+    → ((plain : PlainState) → ShowsPlain rig plain → result ≡ is_some plain.plan)
+    → IsUnanswered (Some rig) commands.DropPlan (Bad NotAllowed)
+drop_not_allowed result rig is tells None shown = absurd shown
+drop_not_allowed result rig is tells (Some plain) shown = λ out. plan_is_not_out result plain is (tells plain shown) out
+
+pub seal_copy_in : (answer : Answer) (old new : RigState) → HasPlanOut old → AnswersEvent (events.SealCopy true) answer old new
+    → (state : State) → AnswersIn commands.SealCopy answer (Some old) (Some new) state
+seal_copy_in answer old new out h =
+    event_in commands.SealCopy (events.SealCopy true) answer old new (λ plain text next shown steps. (out plain shown, steps)) h
+
+pub drop_plan_in : (answer : Answer) (old new : RigState) → HasPlanOut old → AnswersEvent events.DropPlan answer old new
+    → (state : State) → AnswersIn commands.DropPlan answer (Some old) (Some new) state
+drop_plan_in answer old new out h =
+    event_in commands.DropPlan events.DropPlan answer old new (λ plain text next shown steps. (out plain shown, steps)) h
 
 pub done_in : (number : ℕ) (answer : Answer) (old new : RigState) → IsOut number old
     → AnswersEvent (events.JobDone (Some number)) answer old new
@@ -268,6 +304,9 @@ not_new commands.Flush other is = is
 not_new commands.Seal other is = is
 not_new commands.SealCheckpoint other is = is
 not_new commands.Remove other is = is
+not_new commands.PlanCopy other is = is
+not_new commands.SealCopy other is = is
+not_new commands.DropPlan other is = is
 not_new commands.TakeJob other is = is
 not_new (commands.JobDone number) other is = is
 not_new (commands.JobFailed number) other is = is
@@ -300,6 +339,9 @@ no_crash commands.Flush keep lost = refl
 no_crash commands.Seal keep lost = refl
 no_crash commands.SealCheckpoint keep lost = refl
 no_crash commands.Remove keep lost = refl
+no_crash commands.PlanCopy keep lost = refl
+no_crash commands.SealCopy keep lost = refl
+no_crash commands.DropPlan keep lost = refl
 no_crash commands.TakeJob keep lost = refl
 no_crash (commands.JobDone number) keep lost = refl
 no_crash (commands.JobFailed number) keep lost = refl

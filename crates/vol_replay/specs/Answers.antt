@@ -4,8 +4,8 @@ use Rattle.replay_script.specs.RunText.{IsRunText}
 use Rattle.transcript.specs.Answers.{text_of_mount}
 use Rattle.replay_rig.specs.declared.answer.Answer.{Answer}
 use Rattle.replay_rig.specs.declared.answer.Answer.TheVariants.{Created, Entries, Sectors, Sealed, Put, Done, Failed, Gone}
-use Rattle.replay_rig.specs.declared.answer.Answer.TheVariants.{Counts, Stopping, Mounted, BatchFull, EntriesFull, NoRoom}
-use Rattle.replay_rig.specs.declared.answer.Answer.TheVariants.{Range, Nothing, Busy, Fault}
+use Rattle.replay_rig.specs.declared.answer.Answer.TheVariants.{Copied, Dropped, Counts, Stopping, Mounted, BatchFull}
+use Rattle.replay_rig.specs.declared.answer.Answer.TheVariants.{EntriesFull, NoRoom, Range, Nothing, Busy, Fault}
 
 -- the text that tells an answer
 abbrev pub TellsAnswer : Answer → List ℕ → Type 0
@@ -17,6 +17,8 @@ TellsAnswer (Put number) text = text ≡ codes "put " ++ decimal number
 TellsAnswer (Done frontier) text = text ≡ codes "done " ++ decimal frontier
 TellsAnswer (Failed number) text = text ≡ codes "failed " ++ decimal number
 TellsAnswer (Gone number) text = text ≡ codes "gone " ++ decimal number
+TellsAnswer (Copied sectors) text = text ≡ codes "copied " ++ decimal sectors
+TellsAnswer Dropped text = text ≡ codes "dropped"
 TellsAnswer (Counts entries sealed frontier) text =
     text ≡ codes "info " ++ decimal entries ++ codes " " ++ decimal sealed ++ codes " " ++ decimal frontier
 TellsAnswer (Stopping calls) text = text ≡ codes "stop " ++ decimal calls

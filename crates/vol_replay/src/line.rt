@@ -214,6 +214,45 @@ fn remove(rig: &mut Rig) -> Result<Answer, LineRefusal>
     Ok(rig.remove()?)
 }
 
+// Plans a copy, and copies what it takes.
+fn plan_copy(alloc: Global, rig: &mut Rig) -> Result<Answer, LineRefusal>
+    requires { rig.old.lines < 2 ^ 40 }
+    ensures ok { IfOk result (λ answer. AnswersCommand Command.PlanCopy answer (Some rig.old)
+        (Some rig.new)) }
+    ensures refused { IfErr result (IsUnanswered (Some rig.old) Command.PlanCopy) }
+    ensures lines { rig.new.lines ≤ rig.old.lines + 1 }
+{
+    Ok(rig.plan_copy(alloc)?)
+}
+
+// Seals what was copied.
+fn seal_copy(rig: &mut Rig) -> Result<Answer, LineRefusal>
+    requires { rig.old.lines < 2 ^ 40 }
+    ensures ok { IfOk result (λ answer. AnswersCommand Command.SealCopy answer (Some rig.old)
+        (Some rig.new)) }
+    ensures refused { IfErr result (IsUnanswered (Some rig.old) Command.SealCopy) }
+    ensures lines { rig.new.lines ≤ rig.old.lines + 1 }
+{
+    if !rig.has_copy() {
+        return Err(LineRefusal::Bad(LineReason::NotAllowed));
+    }
+    Ok(rig.seal_copy()?)
+}
+
+// Gives the plan of a copy up.
+fn drop_plan(rig: &mut Rig) -> Result<Answer, LineRefusal>
+    requires { rig.old.lines < 2 ^ 40 }
+    ensures ok { IfOk result (λ answer. AnswersCommand Command.DropPlan answer (Some rig.old)
+        (Some rig.new)) }
+    ensures refused { IfErr result (IsUnanswered (Some rig.old) Command.DropPlan) }
+    ensures lines { rig.new.lines ≤ rig.old.lines + 1 }
+{
+    if !rig.has_copy() {
+        return Err(LineRefusal::Bad(LineReason::NotAllowed));
+    }
+    Ok(rig.drop_plan()?)
+}
+
 // Begins the put of the lowest ready object.
 fn begin_put(rig: &mut Rig) -> Result<Answer, LineRefusal>
     requires { rig.old.lines < 2 ^ 40 }
@@ -256,6 +295,9 @@ fn answer_step(alloc: Global, rig: &mut Rig, command: Command) -> Result<Answer,
         Command::JobFailed { number } => fail_put(rig, number),
         Command::SealCheckpoint => seal_checkpoint(rig),
         Command::Remove => remove(rig),
+        Command::PlanCopy => plan_copy(alloc, rig),
+        Command::SealCopy => seal_copy(rig),
+        Command::DropPlan => drop_plan(rig),
         Command::Status => status(rig),
         Command::Stop { calls } => stop(rig, calls),
         Command::New(_) => Err(LineRefusal::Bad(LineReason::NotAllowed)),

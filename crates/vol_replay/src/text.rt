@@ -36,6 +36,8 @@ fn push_text(answers: &mut Vec<u8>, answer: &Answer) -> Result<(), AllocError>
         Answer::Done(frontier) => push_counted(answers, b"done ", *frontier),
         Answer::Failed(number) => push_counted(answers, b"failed ", *number),
         Answer::Gone(number) => push_counted(answers, b"gone ", *number),
+        Answer::Copied(sectors) => push_counted(answers, b"copied ", *sectors),
+        Answer::Dropped => answers.extend_from_slice(b"dropped"),
         Answer::Counts {
             entries,
             sealed,

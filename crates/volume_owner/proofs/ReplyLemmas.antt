@@ -6,6 +6,7 @@ use Rattle.vol_core.specs.declared.reply.EntryRefusal.{EntryRefusal}
 use Rattle.vol_core.specs.declared.reply.EntryRefusal.TheVariants as refusals
 use Rattle.vol_core.specs.declared.reply.Reply.{Reply}
 use Rattle.vol_core.specs.declared.reply.Reply.TheVariants as told
+use Rattle.vol_core.specs.declared.reply.SealRefusal.TheVariants as seal_refusals
 use Rattle.object_uploads.specs.State.{JobState}
 use Rattle.read_plan.specs.Plan.{PlanState}
 use Rattle.vol_core.specs.Step.{tells_fault, lacks_memory}
@@ -195,6 +196,30 @@ reply_cases (told.NotGivenBack receipt) =
       again = λ back is. (let bad : ⊥ = cc in absurd bad);
       count = λ count is. cc;
     })
+reply_cases (told.Copying plan) =
+    inr (record {
+      other = λ count is. cc;
+      none = λ entry. refl;
+      fault = refl;
+      again = λ back is. (let bad : ⊥ = cc in absurd bad);
+      count = λ count is. cc;
+    })
+reply_cases (told.NotSealed copied why) =
+    inr (record {
+      other = λ count is. cc;
+      none = λ entry. refl;
+      fault = refl;
+      again = λ back is. (let bad : ⊥ = cc in absurd bad);
+      count = λ count is. cc;
+    })
+reply_cases told.Dropped =
+    inr (record {
+      other = λ count is. cc;
+      none = λ entry. refl;
+      fault = refl;
+      again = λ back is. (let bad : ⊥ = cc in absurd bad);
+      count = λ count is. cc;
+    })
 reply_cases (told.Told a b c d) =
     inr (record {
       other = λ count is. cc;
@@ -267,6 +292,9 @@ job_cases (told.Removing receipt) = inr refl
 job_cases told.Removed = inr refl
 job_cases told.GivenBack = inr refl
 job_cases (told.NotGivenBack receipt) = inr refl
+job_cases (told.Copying plan) = inr refl
+job_cases (told.NotSealed copied why) = inr refl
+job_cases told.Dropped = inr refl
 job_cases (told.Told a b c d) = inr refl
 job_cases told.Range = inr refl
 job_cases told.Nothing = inr refl
@@ -295,6 +323,9 @@ count_cases (told.Removing receipt) = inr refl
 count_cases told.Removed = inr refl
 count_cases told.GivenBack = inr refl
 count_cases (told.NotGivenBack receipt) = inr refl
+count_cases (told.Copying plan) = inr refl
+count_cases (told.NotSealed copied why) = inr refl
+count_cases told.Dropped = inr refl
 count_cases (told.Told a b c d) = inr refl
 count_cases told.Range = inr refl
 count_cases told.Nothing = inr refl
@@ -324,6 +355,9 @@ receipt_cases (told.Removing receipt) = inl (receipt, refl)
 receipt_cases told.Removed = inr refl
 receipt_cases told.GivenBack = inr refl
 receipt_cases (told.NotGivenBack receipt) = inr refl
+receipt_cases (told.Copying plan) = inr refl
+receipt_cases (told.NotSealed copied why) = inr refl
+receipt_cases told.Dropped = inr refl
 receipt_cases (told.Told a b c d) = inr refl
 receipt_cases told.Range = inr refl
 receipt_cases told.Nothing = inr refl
@@ -353,6 +387,9 @@ seal_cases (told.Removing receipt) = inr (inr refl)
 seal_cases told.Removed = inr (inr refl)
 seal_cases told.GivenBack = inr (inr refl)
 seal_cases (told.NotGivenBack receipt) = inr (inr refl)
+seal_cases (told.Copying plan) = inr (inr refl)
+seal_cases (told.NotSealed copied why) = inr (inr refl)
+seal_cases told.Dropped = inr (inr refl)
 seal_cases (told.Told a b c d) = inr (inr refl)
 seal_cases told.Range = inr (inr refl)
 seal_cases told.Nothing = inr (inl refl)
@@ -405,6 +442,9 @@ plan_cases (told.Removing receipt) = inr (record { error = errors.OutOfMemory; i
 plan_cases told.Removed = inr (record { error = errors.OutOfMemory; is = refl; fault = refl; no_range = λ is. cc })
 plan_cases told.GivenBack = inr (record { error = errors.OutOfMemory; is = refl; fault = refl; no_range = λ is. cc })
 plan_cases (told.NotGivenBack receipt) = inr (record { error = errors.OutOfMemory; is = refl; fault = refl; no_range = λ is. cc })
+plan_cases (told.Copying plan) = inr (record { error = errors.OutOfMemory; is = refl; fault = refl; no_range = λ is. cc })
+plan_cases (told.NotSealed copied why) = inr (record { error = errors.OutOfMemory; is = refl; fault = refl; no_range = λ is. cc })
+plan_cases told.Dropped = inr (record { error = errors.OutOfMemory; is = refl; fault = refl; no_range = λ is. cc })
 plan_cases (told.Told a b c d) = inr (record { error = errors.OutOfMemory; is = refl; fault = refl; no_range = λ is. cc })
 plan_cases told.Range = inr (record { error = errors.OutOfMemory; is = refl; fault = refl; no_range = λ is. cc })
 plan_cases told.Nothing = inr (record { error = errors.OutOfMemory; is = refl; fault = refl; no_range = λ is. cc })
@@ -434,6 +474,11 @@ memory_is_no_fault (told.Removing receipt) is = let bad : ⊥ = cc in absurd bad
 memory_is_no_fault told.Removed is = let bad : ⊥ = cc in absurd bad
 memory_is_no_fault told.GivenBack is = let bad : ⊥ = cc in absurd bad
 memory_is_no_fault (told.NotGivenBack receipt) is = let bad : ⊥ = cc in absurd bad
+memory_is_no_fault (told.Copying plan) is = let bad : ⊥ = cc in absurd bad
+memory_is_no_fault (told.NotSealed copied seal_refusals.NotPlanned) is = let bad : ⊥ = cc in absurd bad
+memory_is_no_fault (told.NotSealed copied seal_refusals.Busy) is = let bad : ⊥ = cc in absurd bad
+memory_is_no_fault (told.NotSealed copied seal_refusals.OutOfMemory) is = refl
+memory_is_no_fault told.Dropped is = let bad : ⊥ = cc in absurd bad
 memory_is_no_fault (told.Told a b c d) is = let bad : ⊥ = cc in absurd bad
 memory_is_no_fault told.Range is = let bad : ⊥ = cc in absurd bad
 memory_is_no_fault told.Nothing is = let bad : ⊥ = cc in absurd bad

@@ -11,6 +11,7 @@ use Rattle.lsvd_objstore.specs.Objects.{Objects, found, IsPut, MayBePut, IsRemov
 use Rattle.lsvd_objstore.specs.Store.{StoreState, ReceiptState, Becomes}
 use Rattle.refine_log.specs.Fuses.{fuse_in}
 use Rattle.object_recovery.specs.Checkpoints.{expected_of}
+use Rattle.object_stream.specs.declared.object.CopiedSector.{CopiedSector}
 use Rattle.object_uploads.specs.Order.{IsUploads}
 use Rattle.object_uploads.specs.State.{JobState}
 use Rattle.object_uploads.specs.Image.{TellAlike}
@@ -20,6 +21,7 @@ use Rattle.plain_disk.specs.declared.event.PlainEvent.{PlainEvent}
 use Rattle.plain_disk.specs.declared.event.PlainEvent.TheVariants as events
 use Rattle.plain_disk.specs.Objects.{has_unsealed, is_busy, reply_of_taken, window_after_take}
 use Rattle.plain_disk.specs.Reads.{are_pinned}
+use Rattle.plain_disk.specs.Collection.{planned_copy, with_plan, with_copy, after_sealed_copy}
 use Rattle.plain_disk.specs.Removals.{has, to_remove, with_removal, is_out}
 use Rattle.plain_disk.specs.State.{PlainState}
 use Rattle.plain_disk.specs.Step.{plain_reply, plain_after}
@@ -236,6 +238,22 @@ module _ {R : Type 0} (state : R → ReceiptState) (reply : Reply R) (old new : 
       either_step objects (fuse_in new.log.commits.disk.budget) (is_out number plain.removal) _ (passing left plain)
       (same_step objects _ refl refl refl) (same_step objects _ refl refl refl)
 
+  plan_by : (objects : Objects) (left : Fuse) (out : Option (List CopiedSector)) (sectors : List CopiedSector)
+      → IsObjectStep uuid old objects plain
+      (passing (fuse_in new.log.commits.disk.budget) (with_plan out sectors (passing left plain)))
+  plan_by objects left (Some plan) sectors = same_step objects _ refl refl refl
+  plan_by objects left None [] = same_step objects _ refl refl refl
+  plan_by objects left None (first ∷ more) = same_step objects _ refl refl refl
+
+  copy_by : (objects : Objects) (left : Fuse) (is_sealed : Bool) (out : Option (List CopiedSector))
+      → IsObjectStep uuid old objects plain
+      (passing (fuse_in new.log.commits.disk.budget) (after_sealed_copy is_sealed out (passing left plain)))
+  copy_by objects left is_sealed None = same_step objects _ refl refl refl
+  copy_by objects left is_sealed (Some copied) =
+      either_step objects (fuse_in new.log.commits.disk.budget) is_sealed (with_copy copied (passing left plain))
+      (passing left plain)
+      (sealed_step uuid old objects plain _ false shows.valid refl refl refl) (same_step objects _ refl refl refl)
+
   -- ---- by the event
 
   told_of : (P : Objects → Type 0) (held : Option Objects) (objects : Objects) → IfSome held P → held ≡ Some objects → P objects
@@ -291,6 +309,16 @@ module _ {R : Type 0} (state : R → ReceiptState) (reply : Reply R) (old new : 
       quiet_keeps (asks.RemoveFailed receipt) (events.RemoveFailed s.asks.0) s s.asks.1 refl
       (λ objects there. remove_failed_by objects s.left s.asks.0)
   step_by (asks.RemoveFailed receipt) object order (inr n) = none_keeps n.shows
+  step_by asks.PlanCopy object order (inl s) =
+      quiet_keeps asks.PlanCopy events.PlanCopy s s.asks refl
+      (λ objects there. plan_by objects s.left plain.plan (planned_copy (passing s.left plain)))
+  step_by asks.PlanCopy object order (inr n) = none_keeps n.shows
+  step_by (asks.SealCopy copied) object order (inl s) =
+      quiet_keeps (asks.SealCopy copied) (events.SealCopy s.asks.0) s s.asks.1 refl
+      (λ objects there. copy_by objects s.left (s.asks.0 && not (is_busy (passing s.left plain))) plain.plan)
+  step_by (asks.SealCopy copied) object order (inr n) = none_keeps n.shows
+  step_by asks.DropPlan object order (inl s) = still_keeps asks.DropPlan events.DropPlan s s.asks refl refl refl refl
+  step_by asks.DropPlan object order (inr n) = none_keeps n.shows
   step_by asks.Status object order (inl s) = still_keeps asks.Status events.Status s s.asks refl refl refl refl
   step_by asks.Status object order (inr n) = none_keeps n.shows
 

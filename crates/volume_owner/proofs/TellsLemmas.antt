@@ -11,6 +11,7 @@ use Rattle.vol_core.specs.declared.reply.EntryRefusal.{EntryRefusal}
 use Rattle.vol_core.specs.declared.reply.EntryRefusal.TheVariants as refusals
 use Rattle.vol_core.specs.declared.reply.Reply.{Reply}
 use Rattle.vol_core.specs.declared.reply.Reply.TheVariants as told
+use Rattle.vol_core.specs.declared.reply.SealRefusal.TheVariants as seal_refusals
 use Rattle.vol_core.specs.Volume.{VolumeState}
 use Rattle.vol_core.specs.Events.{Tells, TellsRefusal}
 use Rattle.vol_core.specs.Step.{tells_fault}
@@ -42,6 +43,11 @@ tells_entered state volume (told.Removing receipt) count tells = let is = tells.
 tells_entered state volume told.Removed count tells = let bad : ⊥ = cc in absurd bad
 tells_entered state volume told.GivenBack count tells = let bad : ⊥ = cc in absurd bad
 tells_entered state volume (told.NotGivenBack receipt) count tells = let bad : ⊥ = cc in absurd bad
+tells_entered state volume (told.Copying plan) count tells = let is = tells.1 in let bad : ⊥ = cc in absurd bad
+tells_entered state volume (told.NotSealed copied seal_refusals.NotPlanned) count tells = let bad : ⊥ = cc in absurd bad
+tells_entered state volume (told.NotSealed copied seal_refusals.Busy) count tells = let bad : ⊥ = cc in absurd bad
+tells_entered state volume (told.NotSealed copied seal_refusals.OutOfMemory) count tells = absurd tells
+tells_entered state volume told.Dropped count tells = let bad : ⊥ = cc in absurd bad
 tells_entered state volume (told.Told a b c d) count tells = let bad : ⊥ = cc in absurd bad
 tells_entered state volume told.Range count tells = let bad : ⊥ = cc in absurd bad
 tells_entered state volume told.Nothing count tells = let bad : ⊥ = cc in absurd bad
@@ -76,6 +82,11 @@ tells_flushed state volume (told.Removing receipt) count tells = let is = tells.
 tells_flushed state volume told.Removed count tells = let bad : ⊥ = cc in absurd bad
 tells_flushed state volume told.GivenBack count tells = let bad : ⊥ = cc in absurd bad
 tells_flushed state volume (told.NotGivenBack receipt) count tells = let bad : ⊥ = cc in absurd bad
+tells_flushed state volume (told.Copying plan) count tells = let is = tells.1 in let bad : ⊥ = cc in absurd bad
+tells_flushed state volume (told.NotSealed copied seal_refusals.NotPlanned) count tells = let bad : ⊥ = cc in absurd bad
+tells_flushed state volume (told.NotSealed copied seal_refusals.Busy) count tells = let bad : ⊥ = cc in absurd bad
+tells_flushed state volume (told.NotSealed copied seal_refusals.OutOfMemory) count tells = absurd tells
+tells_flushed state volume told.Dropped count tells = let bad : ⊥ = cc in absurd bad
 tells_flushed state volume (told.Told a b c d) count tells = let bad : ⊥ = cc in absurd bad
 tells_flushed state volume told.Range count tells = let bad : ⊥ = cc in absurd bad
 tells_flushed state volume told.Nothing count tells = let bad : ⊥ = cc in absurd bad
@@ -110,6 +121,11 @@ tells_taken state volume (told.Removing receipt) number tells = let is = tells.0
 tells_taken state volume told.Removed number tells = let bad : ⊥ = cc in absurd bad
 tells_taken state volume told.GivenBack number tells = let bad : ⊥ = cc in absurd bad
 tells_taken state volume (told.NotGivenBack receipt) number tells = let bad : ⊥ = cc in absurd bad
+tells_taken state volume (told.Copying plan) number tells = let is = tells.1 in let bad : ⊥ = cc in absurd bad
+tells_taken state volume (told.NotSealed copied seal_refusals.NotPlanned) number tells = let bad : ⊥ = cc in absurd bad
+tells_taken state volume (told.NotSealed copied seal_refusals.Busy) number tells = let bad : ⊥ = cc in absurd bad
+tells_taken state volume (told.NotSealed copied seal_refusals.OutOfMemory) number tells = absurd tells
+tells_taken state volume told.Dropped number tells = let bad : ⊥ = cc in absurd bad
 tells_taken state volume (told.Told a b c d) number tells = let bad : ⊥ = cc in absurd bad
 tells_taken state volume told.Range number tells = let bad : ⊥ = cc in absurd bad
 tells_taken state volume told.Nothing number tells = let bad : ⊥ = cc in absurd bad
@@ -144,6 +160,11 @@ tells_sealed state volume (told.Removing receipt) number tells = let is = tells.
 tells_sealed state volume told.Removed number tells = let bad : ⊥ = cc in absurd bad
 tells_sealed state volume told.GivenBack number tells = let bad : ⊥ = cc in absurd bad
 tells_sealed state volume (told.NotGivenBack receipt) number tells = let bad : ⊥ = cc in absurd bad
+tells_sealed state volume (told.Copying plan) number tells = let is = tells.1 in let bad : ⊥ = cc in absurd bad
+tells_sealed state volume (told.NotSealed copied seal_refusals.NotPlanned) number tells = let bad : ⊥ = cc in absurd bad
+tells_sealed state volume (told.NotSealed copied seal_refusals.Busy) number tells = let bad : ⊥ = cc in absurd bad
+tells_sealed state volume (told.NotSealed copied seal_refusals.OutOfMemory) number tells = absurd tells
+tells_sealed state volume told.Dropped number tells = let bad : ⊥ = cc in absurd bad
 tells_sealed state volume (told.Told a b c d) number tells = let bad : ⊥ = cc in absurd bad
 tells_sealed state volume told.Range number tells = let bad : ⊥ = cc in absurd bad
 tells_sealed state volume told.Nothing number tells = let bad : ⊥ = cc in absurd bad
@@ -178,6 +199,11 @@ tells_planned state volume (told.Removing receipt) read tells = let is = tells.0
 tells_planned state volume told.Removed read tells = let bad : ⊥ = cc in absurd bad
 tells_planned state volume told.GivenBack read tells = let bad : ⊥ = cc in absurd bad
 tells_planned state volume (told.NotGivenBack receipt) read tells = let bad : ⊥ = cc in absurd bad
+tells_planned state volume (told.Copying plan) read tells = let is = tells.1 in let bad : ⊥ = cc in absurd bad
+tells_planned state volume (told.NotSealed copied seal_refusals.NotPlanned) read tells = let bad : ⊥ = cc in absurd bad
+tells_planned state volume (told.NotSealed copied seal_refusals.Busy) read tells = let bad : ⊥ = cc in absurd bad
+tells_planned state volume (told.NotSealed copied seal_refusals.OutOfMemory) read tells = absurd tells
+tells_planned state volume told.Dropped read tells = let bad : ⊥ = cc in absurd bad
 tells_planned state volume (told.Told a b c d) read tells = let bad : ⊥ = cc in absurd bad
 tells_planned state volume told.Range read tells = let bad : ⊥ = cc in absurd bad
 tells_planned state volume told.Nothing read tells = let bad : ⊥ = cc in absurd bad
@@ -212,6 +238,11 @@ tells_removing state volume (told.Removing receipt) number tells = (receipt, ref
 tells_removing state volume told.Removed number tells = let bad : ⊥ = cc in absurd bad
 tells_removing state volume told.GivenBack number tells = let bad : ⊥ = cc in absurd bad
 tells_removing state volume (told.NotGivenBack receipt) number tells = let bad : ⊥ = cc in absurd bad
+tells_removing state volume (told.Copying plan) number tells = let is = tells.1 in let bad : ⊥ = cc in absurd bad
+tells_removing state volume (told.NotSealed copied seal_refusals.NotPlanned) number tells = let bad : ⊥ = cc in absurd bad
+tells_removing state volume (told.NotSealed copied seal_refusals.Busy) number tells = let bad : ⊥ = cc in absurd bad
+tells_removing state volume (told.NotSealed copied seal_refusals.OutOfMemory) number tells = absurd tells
+tells_removing state volume told.Dropped number tells = let bad : ⊥ = cc in absurd bad
 tells_removing state volume (told.Told a b c d) number tells = let bad : ⊥ = cc in absurd bad
 tells_removing state volume told.Range number tells = let bad : ⊥ = cc in absurd bad
 tells_removing state volume told.Nothing number tells = let bad : ⊥ = cc in absurd bad
@@ -249,6 +280,11 @@ tells_told state volume (told.Removing receipt) w s f k tells = let is = tells.0
 tells_told state volume told.Removed w s f k tells = let bad : ⊥ = cc in absurd bad
 tells_told state volume told.GivenBack w s f k tells = let bad : ⊥ = cc in absurd bad
 tells_told state volume (told.NotGivenBack receipt) w s f k tells = let bad : ⊥ = cc in absurd bad
+tells_told state volume (told.Copying plan) w s f k tells = let is = tells.1 in let bad : ⊥ = cc in absurd bad
+tells_told state volume (told.NotSealed copied seal_refusals.NotPlanned) w s f k tells = let bad : ⊥ = cc in absurd bad
+tells_told state volume (told.NotSealed copied seal_refusals.Busy) w s f k tells = let bad : ⊥ = cc in absurd bad
+tells_told state volume (told.NotSealed copied seal_refusals.OutOfMemory) w s f k tells = absurd tells
+tells_told state volume told.Dropped w s f k tells = let bad : ⊥ = cc in absurd bad
 tells_told state volume (told.Told a b c d) w s f k tells = cc
 tells_told state volume told.Range w s f k tells = let bad : ⊥ = cc in absurd bad
 tells_told state volume told.Nothing w s f k tells = let bad : ⊥ = cc in absurd bad
@@ -280,6 +316,11 @@ tells_failed state volume (told.Removing receipt) tells = let is = tells.0 in le
 tells_failed state volume told.Removed tells = let bad : ⊥ = cc in absurd bad
 tells_failed state volume told.GivenBack tells = let bad : ⊥ = cc in absurd bad
 tells_failed state volume (told.NotGivenBack receipt) tells = let bad : ⊥ = cc in absurd bad
+tells_failed state volume (told.Copying plan) tells = let is = tells.1 in let bad : ⊥ = cc in absurd bad
+tells_failed state volume (told.NotSealed copied seal_refusals.NotPlanned) tells = let bad : ⊥ = cc in absurd bad
+tells_failed state volume (told.NotSealed copied seal_refusals.Busy) tells = let bad : ⊥ = cc in absurd bad
+tells_failed state volume (told.NotSealed copied seal_refusals.OutOfMemory) tells = absurd tells
+tells_failed state volume told.Dropped tells = let bad : ⊥ = cc in absurd bad
 tells_failed state volume (told.Told a b c d) tells = let bad : ⊥ = cc in absurd bad
 tells_failed state volume told.Range tells = let bad : ⊥ = cc in absurd bad
 tells_failed state volume told.Nothing tells = let bad : ⊥ = cc in absurd bad
@@ -310,6 +351,9 @@ tells_no_fault state volume (told.Removing receipt) plain tells other = refl
 tells_no_fault state volume told.Removed plain tells other = refl
 tells_no_fault state volume told.GivenBack plain tells other = refl
 tells_no_fault state volume (told.NotGivenBack receipt) plain tells other = refl
+tells_no_fault state volume (told.Copying copying) plain tells other = refl
+tells_no_fault state volume (told.NotSealed copied why) plain tells other = refl
+tells_no_fault state volume told.Dropped plain tells other = refl
 tells_no_fault state volume (told.Told a b c d) plain tells other = refl
 tells_no_fault state volume told.Range plain tells other = refl
 tells_no_fault state volume told.Nothing plain tells other = refl

@@ -3,7 +3,8 @@ use Rattle.replay_script.proofs.Words.{found_in_same, have_same, name_alone, nam
 use Rattle.replay_script.proofs.Words.{name_and_four, names_and_two}
 use Rattle.replay_script.proofs.command.form_of.Goals as goal
 use Rattle.replay_script.proofs.command.form_of.Goals.{in-New, in-Write, in-Zero, in-Read, in-Flush, in-Seal, in-TakeJob}
-use Rattle.replay_script.proofs.command.form_of.Goals.{in-JobDone, in-JobFailed, in-SealCheckpoint, in-Remove, in-Status, in-Stop}
+use Rattle.replay_script.proofs.command.form_of.Goals.{in-JobDone, in-JobFailed, in-SealCheckpoint, in-Remove, in-PlanCopy}
+use Rattle.replay_script.proofs.command.form_of.Goals.{in-SealCopy, in-DropPlan, in-Status, in-Stop}
 use Rattle.replay_script.proofs.command.form_of.Goals.{in-CrashKeep+in_ok-crash_keep_of-in-CrashKeep}
 use Rattle.replay_script.proofs.command.form_of.Goals.{in-CrashLost+in_ok-crash_lost_of-in-CrashLost}
 
@@ -53,6 +54,15 @@ returns-clause-found c =
       | in-Remove w ↦
           let have = have_same bytes_of c.args.words.now _ _ w.in-Remove.is c.requires.begun c.requires.counted in
           rw w.result-is (name_alone bytes_of c.args.words.now (codes "k") have.0 have.1, tt)
+      | in-PlanCopy w ↦
+          let have = have_same bytes_of c.args.words.now _ _ w.in-PlanCopy.is c.requires.begun c.requires.counted in
+          rw w.result-is (name_alone bytes_of c.args.words.now (codes "g") have.0 have.1, tt)
+      | in-SealCopy w ↦
+          let have = have_same bytes_of c.args.words.now _ _ w.in-SealCopy.is c.requires.begun c.requires.counted in
+          rw w.result-is (name_alone bytes_of c.args.words.now (codes "G") have.0 have.1, tt)
+      | in-DropPlan w ↦
+          let have = have_same bytes_of c.args.words.now _ _ w.in-DropPlan.is c.requires.begun c.requires.counted in
+          rw w.result-is (name_alone bytes_of c.args.words.now (codes "q") have.0 have.1, tt)
       | in-Status w ↦
           let have = have_same bytes_of c.args.words.now _ _ w.in-Status.is c.requires.begun c.requires.counted in
           rw w.result-is (name_alone bytes_of c.args.words.now (codes "i") have.0 have.1, tt)

@@ -1,7 +1,7 @@
 use Rattle.std.proofs.Common.{◌≡◌, sym, subst, rules}
 use Rattle.commit_slot.specs.Slots.{log_of}
 use Rattle.replay_rig.specs.Rig.{RigState, rig_of, ShowsPlain}
-use Rattle.replay_rig.proofs.Mounts.{WasLost, was_lost, log_anew, may_mount_anew, rig_anew, told_by}
+use Rattle.replay_rig.proofs.Mounts.{WasLost, was_lost, log_anew, may_mount_anew, rig_anew, no_plan_anew, told_by}
 use Rattle.replay_rig.proofs.rig.Rig.crash_lost.Goals as goal
 use Rattle.replay_rig.proofs.rig.Rig.crash_lost.Goals.{In_ok-land}
 
@@ -21,7 +21,7 @@ sectors c = search rules
 pub mount_anew-requires-clause-may : goal.mount_anew-requires-clause-may
 mount_anew-requires-clause-may c =
     let before = (goal.at.mount_anew-requires-clause-may c).In_ok-land in
-    let known = c.self.invariant in
+    let known = c.self.invariant.0 in
     let rig : RigState = inside before in (
       known.0.geometry,
       log_anew rig known.0 c.geometry-log.result
@@ -33,7 +33,7 @@ pub go_on-requires-clause-shows : goal.go_on-requires-clause-shows
 go_on-requires-clause-shows c =
     let before = (goal.at.go_on-requires-clause-shows c).In_ok-land in
     let rig : RigState = inside before in
-    let known = c.self.invariant in
+    let known = c.self.invariant.0 in
     let e = c.in_ok-mounted.ensures in (
       _,
       (rig_anew rig known.0 c.args.letters.now c.land.new.store c.mount_anew.new.store c.in_ok-mounted.mounted
@@ -43,6 +43,16 @@ go_on-requires-clause-shows c =
           (sectors before)) e.ok
           e.mounts e.number).1,
     )
+
+pub go_on-requires-clause-plan : goal.go_on-requires-clause-plan
+go_on-requires-clause-plan c =
+    let before = (goal.at.go_on-requires-clause-plan c).In_ok-land in
+    let rig : RigState = inside before in
+    let known = c.self.invariant.0 in
+    no_plan_anew rig known.0 c.args.letters.now c.land.new.store c.mount_anew.new.store c.in_ok-mounted.mounted
+    (log_of c.in_ok-disk.disk.size) known.1 (was before)
+    (log_anew rig known.0 c.geometry-log.result (log_of c.in_ok-disk.disk.size) known.1 c.geometry-log.ensures.is
+    (sectors before)) c.in_ok-mounted.ensures.ok
 
 pub returns-clause-ok : goal.returns-clause-ok
 returns-clause-ok c = record {

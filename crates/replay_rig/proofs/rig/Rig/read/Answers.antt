@@ -1,10 +1,11 @@
-use Rattle.std.proofs.Common.{◌+◌, sym, ap, subst, arith}
+use Rattle.std.proofs.Common.{◌+◌, sym, ◌∙◌, ap, subst, arith}
 use Rattle.std.specs.Prelude.{IfOk}
 use Rattle.replay_rig.specs.declared.answer.Answer.TheVariants as answers
 use Rattle.replay_rig.specs.Steps.{AnswersRead}
 use Rattle.replay_rig.specs.Rig.{RigState, rig_of, ShowsPlain}
 use Rattle.replay_rig.proofs.Reading.{look_shows, read_refused, read_shows, read_planned}
 use Rattle.replay_rig.proofs.Rooms.{few_steps}
+use Rattle.replay_rig.proofs.Copies.{held_still}
 use Rattle.replay_rig.proofs.rig.Rig.read.Goals as goal
 
 pub step-requires-clause-steps : goal.step-requires-clause-steps
@@ -12,7 +13,7 @@ step-requires-clause-steps c =
     let inside = c.self.inside in
     let old : RigState = rig_of inside.volume inside.store inside.puts.list inside.is_stopping inside.lines in
     let lines = ap (λ (r : RigState). r.lines) c.self.view_is in
-    omega (arith, few_steps old c.self.invariant.0 c.self.invariant.1, lines, c.requires)
+    omega (arith, few_steps old c.self.invariant.0.0 c.self.invariant.0.1, lines, c.requires)
 
 pub step-requires-clause-receipt : goal.step-requires-clause-receipt
 step-requires-clause-receipt c = tt
@@ -20,8 +21,12 @@ step-requires-clause-receipt c = tt
 pub invariant_of-self : goal.invariant_of-self
 invariant_of-self c =
     let inside = c.self.inside in
-    let old : RigState = rig_of inside.volume inside.store inside.puts.list inside.is_stopping inside.lines in
-    look_shows c.args.lba c.args.sectors old c.step.new.self c.self.invariant.0 c.step.result c.self.invariant.1 c.step.ensures
+    let old : RigState = rig_of inside.volume inside.store inside.puts.list inside.is_stopping inside.lines in (
+      look_shows c.args.lba c.args.sectors old c.step.new.self c.self.invariant.0.0 c.step.result c.self.invariant.0.1
+          c.step.ensures,
+      held_still inside.volume.volume.plan c.step.new.self.volume.plan inside.copied c.step.ensures.step.copying
+          c.self.invariant.1,
+    )
 
 pub returns-in_default : goal.returns-in_default
 returns-in_default c =
@@ -40,7 +45,7 @@ step-requires-2-clause-steps c =
     let inside = c.self.inside in
     let old : RigState = rig_of inside.volume inside.store inside.puts.list inside.is_stopping inside.lines in
     let lines = ap (λ (r : RigState). r.lines) c.self.view_is in
-    omega (arith, few_steps old c.self.invariant.0 c.self.invariant.1, c.in-Planned.ensures.count, lines, c.requires)
+    omega (arith, few_steps old c.self.invariant.0.0 c.self.invariant.0.1, c.in-Planned.ensures.count, lines, c.requires)
 
 pub step-requires-2-clause-receipt : goal.step-requires-2-clause-receipt
 step-requires-2-clause-receipt c = tt
@@ -49,22 +54,30 @@ pub invariant_of-self-in_err-bytes : goal.invariant_of-self-in_err-bytes
 invariant_of-self-in_err-bytes c =
     let inside = c.self.inside in
     let old : RigState = rig_of inside.volume inside.store inside.puts.list inside.is_stopping inside.lines in
-    let shown = read_shows c.args.lba c.args.sectors old c.step.new.self c.step-2.new.self c.self.invariant.0
-    c.in-Planned.plan c.step-2.result c.self.invariant.1 c.in-Planned.ensures c.step-2.ensures in (
-      shown.0,
-      subst (λ objects. ShowsPlain (rig_of c.step-2.new.self objects inside.puts.list inside.is_stopping (inside.lines + 1))
-          shown.0) (sym c.fetched-outcome.ensures.store) shown.1,
+    let shown = read_shows c.args.lba c.args.sectors old c.step.new.self c.step-2.new.self c.self.invariant.0.0
+    c.in-Planned.plan c.step-2.result c.self.invariant.0.1 c.in-Planned.ensures c.step-2.ensures in (
+      (
+        shown.0,
+        subst (λ objects. ShowsPlain (rig_of c.step-2.new.self objects inside.puts.list inside.is_stopping
+            (inside.lines + 1)) shown.0) (sym c.fetched-outcome.ensures.store) shown.1,
+      ),
+      held_still inside.volume.volume.plan c.step-2.new.self.volume.plan inside.copied
+          (c.step-2.ensures.step.copying ∙ c.in-Planned.ensures.step.copying) c.self.invariant.1,
     )
 
 pub invariant_of-self-2 : goal.invariant_of-self-2
 invariant_of-self-2 c =
     let inside = c.self.inside in
     let old : RigState = rig_of inside.volume inside.store inside.puts.list inside.is_stopping inside.lines in
-    let shown = read_shows c.args.lba c.args.sectors old c.step.new.self c.step-2.new.self c.self.invariant.0
-    c.in-Planned.plan c.step-2.result c.self.invariant.1 c.in-Planned.ensures c.step-2.ensures in (
-      shown.0,
-      subst (λ objects. ShowsPlain (rig_of c.step-2.new.self objects inside.puts.list inside.is_stopping (inside.lines + 1))
-          shown.0) (sym c.fetched-outcome.ensures.store) shown.1,
+    let shown = read_shows c.args.lba c.args.sectors old c.step.new.self c.step-2.new.self c.self.invariant.0.0
+    c.in-Planned.plan c.step-2.result c.self.invariant.0.1 c.in-Planned.ensures c.step-2.ensures in (
+      (
+        shown.0,
+        subst (λ objects. ShowsPlain (rig_of c.step-2.new.self objects inside.puts.list inside.is_stopping
+            (inside.lines + 1)) shown.0) (sym c.fetched-outcome.ensures.store) shown.1,
+      ),
+      held_still inside.volume.volume.plan c.step-2.new.self.volume.plan inside.copied
+          (c.step-2.ensures.step.copying ∙ c.in-Planned.ensures.step.copying) c.self.invariant.1,
     )
 
 pub returns-clause-ok : goal.returns-clause-ok

@@ -40,5 +40,14 @@ returns-in-RemoveDone-clause-step g c = rw c.in-RemoveDone.is c.remove_done.ensu
 pub returns-in-RemoveFailed-clause-step : goal.returns-in-RemoveFailed-clause-step
 returns-in-RemoveFailed-clause-step g c = rw c.in-RemoveFailed.is c.remove_failed.ensures.step
 
+pub returns-in-PlanCopy-clause-step : goal.returns-in-PlanCopy-clause-step
+returns-in-PlanCopy-clause-step g c = rw c.in-PlanCopy.is c.plan_copy.ensures.step
+
+pub returns-in-SealCopy-clause-step : goal.returns-in-SealCopy-clause-step
+returns-in-SealCopy-clause-step g c = rw c.in-SealCopy.is c.seal_copy.ensures.step
+
+pub returns-in-DropPlan-clause-step : goal.returns-in-DropPlan-clause-step
+returns-in-DropPlan-clause-step g c = rw c.in-DropPlan.is c.drop_plan.ensures.step
+
 pub returns-in-Status-clause-step : goal.returns-in-Status-clause-step
 returns-in-Status-clause-step g c = rw c.in-Status.is c.status.ensures

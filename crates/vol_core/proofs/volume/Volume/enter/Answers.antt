@@ -1,8 +1,9 @@
 use Rattle.std.proofs.Common.{rules, subst, sym}
-use Rattle.vol_core.specs.Volume.{VolumeState, volume_of}
+use Rattle.vol_core.specs.Volume.{VolumeState, volume_with}
 use Rattle.vol_core.specs.Shows.{NumbersGrow}
 use Rattle.vol_core.specs.Step.{StepsAsPlain}
 use Rattle.vol_core.specs.Calls.{IsReadyForStep, event_of}
+use Rattle.vol_core.proofs.StepsOf.{entry_stays}
 use Rattle.vol_core.proofs.StepLemmas.{numbers_grow, steps_keep_volume, step_seen}
 use Rattle.vol_core.proofs.EnterSteps.{with_both, may_enter, enter_steps, enter_grow}
 use Rattle.vol_core.proofs.BytesLemmas.{entering_keeps_bytes}
@@ -14,7 +15,7 @@ use Rattle.vol_core.proofs.volume.Volume.enter.Goals as goal
 pub enter-reply-requires : goal.enter-reply-requires
 enter-reply-requires g c =
     let inside = c.self.inside in
-    let volume : VolumeState = volume_of inside.objects inside.log in
+    let volume : VolumeState = volume_with inside.objects inside.log inside.plan in
     let ready = subst IsReadyForStep (sym c.self.view_is) c.requires in
     let is = c.self.invariant in
     may_enter volume is.plain inside.steps is.shows is.steps ready ready.order.uploads
@@ -22,10 +23,11 @@ enter-reply-requires g c =
 -- the entry is a step of each plain volume that the volume shows
 steps : (g : given.Over) (c : After-on_disk g)
     → StepsAsPlain g.R.Receipt.state (event_of c.args.entry) c.enter-reply.result
-    (volume_of c.self.inside.objects c.self.inside.log) (volume_of c.enter-reply.new.objects c.enter-reply.new.log)
+    (volume_with c.self.inside.objects c.self.inside.log c.self.inside.plan)
+    (volume_with c.enter-reply.new.objects c.enter-reply.new.log c.self.inside.plan)
 steps g c =
     let inside = c.self.inside in
-    let volume : VolumeState = volume_of inside.objects inside.log in
+    let volume : VolumeState = volume_with inside.objects inside.log inside.plan in
     let objects = c.enter-reply.new.objects in
     let log = c.enter-reply.new.log in
     let ready = subst IsReadyForStep (sym c.self.view_is) c.requires in
@@ -33,11 +35,11 @@ steps g c =
     c.enter-reply.ensures
 
 grow : (g : given.Over) (c : After-on_disk g)
-    → NumbersGrow (volume_of c.self.inside.objects c.self.inside.log)
-    (volume_of c.enter-reply.new.objects c.enter-reply.new.log)
+    → NumbersGrow (volume_with c.self.inside.objects c.self.inside.log c.self.inside.plan)
+    (volume_with c.enter-reply.new.objects c.enter-reply.new.log c.self.inside.plan)
 grow g c =
     let inside = c.self.inside in
-    let volume : VolumeState = volume_of inside.objects inside.log in
+    let volume : VolumeState = volume_with inside.objects inside.log inside.plan in
     let objects = c.enter-reply.new.objects in
     let log = c.enter-reply.new.log in
     let ready = subst IsReadyForStep (sym c.self.view_is) c.requires in
@@ -51,7 +53,7 @@ grow g c =
 pub invariant_of-self : goal.invariant_of-self
 invariant_of-self g c =
     let inside = c.self.inside in
-    let volume : VolumeState = volume_of inside.objects inside.log in
+    let volume : VolumeState = volume_with inside.objects inside.log inside.plan in
     let ready = subst IsReadyForStep (sym c.self.view_is) c.requires in
     let before = (goal.at.invariant_of-self g c).After-on_disk in
     steps_keep_volume g.R.Receipt.state (event_of c.args.entry) c.enter-reply.result volume
@@ -61,7 +63,7 @@ invariant_of-self g c =
 pub returns-clause-step : goal.returns-clause-step
 returns-clause-step g c =
     let inside = c.self.inside in
-    let volume : VolumeState = volume_of inside.objects inside.log in
+    let volume : VolumeState = volume_with inside.objects inside.log inside.plan in
     let entry = c.args.entry in
     let objects = c.enter-reply.new.objects in
     let log = c.enter-reply.new.log in
@@ -77,6 +79,7 @@ returns-clause-step g c =
       numbers = grow g before;
       stops = entering_keeps_stops entry volume ready.order.uploads ready.order.on_disk reply objects log c.on_disk.ensures
           c.enter-reply.ensures;
+      copying = entry_stays entry reply inside.plan;
       faults = search rules;
       bytes = entering_keeps_bytes entry volume objects log reply c.enter-reply.ensures;
     })

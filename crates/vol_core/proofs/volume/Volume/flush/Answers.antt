@@ -1,6 +1,6 @@
 use Rattle.std.proofs.Common.{rules, ◌+◌, true, false, length, refl, subst, sym}
 use Rattle.vol_core.specs.declared.event.Event.TheVariants as events
-use Rattle.vol_core.specs.Volume.{VolumeState, volume_of}
+use Rattle.vol_core.specs.Volume.{VolumeState, volume_with}
 use Rattle.vol_core.specs.Calls.{IsReadyForStep}
 use Rattle.vol_core.specs.Step.{StepsAsPlain}
 use Rattle.vol_core.proofs.StepLemmas.{numbers_grow, step_seen}
@@ -13,7 +13,7 @@ use Rattle.vol_core.proofs.volume.Volume.flush.Goals.{in-Ok, in-Err}
 pub invariant_of-self : goal.invariant_of-self
 invariant_of-self g c =
     let inside = c.self.inside in
-    let volume : VolumeState = volume_of inside.objects inside.log in
+    let volume : VolumeState = volume_with inside.objects inside.log inside.plan in
     let ready = subst IsReadyForStep (sym c.self.view_is) c.requires in
     let end_is = rw c.uploads.ensures at c.end.ensures in
     flush_keeps_volume g.R.Receipt.state volume c.commit.new.log _ c.end.result inside.steps ready.order.uploads
@@ -23,7 +23,7 @@ pub returns-clause-step : goal.returns-clause-step
 returns-clause-step g c =
     let state = g.R.Receipt.state in
     let inside = c.self.inside in
-    let volume : VolumeState = volume_of inside.objects inside.log in
+    let volume : VolumeState = volume_with inside.objects inside.log inside.plan in
     let batch = volume.objects.batch in
     let count = batch.first + length batch.entries in
     let log = c.commit.new.log in
@@ -52,6 +52,7 @@ returns-clause-step g c =
       numbers = numbers_grow state events.Flush reply volume (with_log log volume) is.plain is.shows steps grow;
       stops = flushing_keeps events.Flush refl volume log _ end ready.order.uploads ready.order.on_disk
           end_is c.commit.ensures;
+      copying = refl;
       faults = search rules;
       bytes = same_bytes volume (with_log log volume) refl refl;
     })

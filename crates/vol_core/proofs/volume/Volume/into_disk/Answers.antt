@@ -1,7 +1,7 @@
 use Rattle.std.proofs.Common.{subst}
 use Rattle.cache_log.specs.Committed.{IsOnDisk}
 use Rattle.stopped_volume.specs.Device.{CacheOwner}
-use Rattle.vol_core.specs.Volume.{SteppedVolume, volume_of}
+use Rattle.vol_core.specs.Volume.{SteppedVolume, volume_with}
 use Rattle.vol_core.specs.Shows.{IsVolume}
 use Rattle.vol_core.specs.Stops.{HasOwnCommits, KeepsNow}
 use Rattle.vol_core.proofs.StopSteps.{stands_now}
@@ -18,4 +18,4 @@ pub returns-clause-stands : goal.returns-clause-stands
 returns-clause-stands g c =
     let inside = c.self.inside in
     subst (λ (s : SteppedVolume). (owner : CacheOwner) → HasOwnCommits owner s.volume → KeepsNow owner s.volume) c.self.view_is
-    (stands_now (volume_of inside.objects inside.log) c.into_disk.ensures.on_disk)
+    (stands_now (volume_with inside.objects inside.log inside.plan) c.into_disk.ensures.on_disk)

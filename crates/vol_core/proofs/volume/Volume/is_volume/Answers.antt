@@ -1,13 +1,13 @@
 use Rattle.std.proofs.Common.{true, subst}
 use Rattle.object_uploads.specs.Image.{TellAlike}
-use Rattle.vol_core.specs.Volume.{VolumeState, SteppedVolume, volume_of}
+use Rattle.vol_core.specs.Volume.{VolumeState, SteppedVolume, volume_with}
 use Rattle.vol_core.specs.Shows.{IsVolume, IsSound}
 use Rattle.vol_core.proofs.volume.Volume.is_volume.Goals as goal
 
 pub returns : goal.returns
 returns g c =
     let inside = c.self.inside in
-    let volume : VolumeState = volume_of inside.objects inside.log in
+    let volume : VolumeState = volume_with inside.objects inside.log inside.plan in
     let order : IsSound volume = record {
       on_disk = c.on_disk.ensures;
       uploads = rw c.uploads.ensures at c.frontier.ensures.order;

@@ -6,7 +6,7 @@ use Rattle.object_uploads.specs.Removal.{IsSameButObjects}
 use Rattle.obj_log.specs.State.{ObjLogState}
 use Rattle.vol_core.specs.declared.event.Event.TheVariants as events
 use Rattle.vol_core.specs.declared.reply.Reply.TheVariants as replies
-use Rattle.vol_core.specs.Volume.{VolumeState, SteppedVolume, volume_of}
+use Rattle.vol_core.specs.Volume.{VolumeState, SteppedVolume, volume_with}
 use Rattle.vol_core.specs.Shows.{NumbersGrow}
 use Rattle.vol_core.specs.Step.{StepsAsPlain, StepOf, HasItsBytes}
 use Rattle.vol_core.specs.Calls.{IsReadyForStep}
@@ -26,7 +26,7 @@ pub returns-then-not-may_transfer-clause-step : goal.returns-then-not-may_transf
 returns-then-not-may_transfer-clause-step g c =
     let state = g.R.Receipt.state in
     let inside = c.self.inside in
-    let volume : VolumeState = volume_of inside.objects inside.log in
+    let volume : VolumeState = volume_with inside.objects inside.log inside.plan in
     let lba = c.args.lba in
     let sectors = c.args.sectors in
     subst (λ (s : SteppedVolume). StepOf state (events.Look lba sectors) replies.Range s.volume s.volume) c.self.view_is
@@ -34,12 +34,12 @@ returns-then-not-may_transfer-clause-step g c =
     (range_steps state volume lba sectors
     (may_of_own volume inside.steps c.args.self.now c.geometry.result lba sectors c.may_transfer.result false c.self.view_is
     c.geometry.ensures.is
-    c.may_transfer.ensures c.if-not-may_transfer.true)) tt tt refl)
+    c.may_transfer.ensures c.if-not-may_transfer.true)) tt tt refl (λ was. refl))
 
 pub look-requires-clause-log : goal.look-requires-clause-log
 look-requires-clause-log g c =
     let inside = c.self.inside in
-    let volume : VolumeState = volume_of inside.objects inside.log in
+    let volume : VolumeState = volume_with inside.objects inside.log inside.plan in
     let lba = c.args.lba in
     let sectors = c.args.sectors in
     let ready = subst IsReadyForStep (sym c.self.view_is) c.requires in
@@ -51,7 +51,7 @@ look-requires-clause-log g c =
 pub look-requires-clause-objects : goal.look-requires-clause-objects
 look-requires-clause-objects g c =
     let inside = c.self.inside in
-    let volume : VolumeState = volume_of inside.objects inside.log in
+    let volume : VolumeState = volume_with inside.objects inside.log inside.plan in
     let lba = c.args.lba in
     let sectors = c.args.sectors in
     let ready = subst IsReadyForStep (sym c.self.view_is) c.requires in
@@ -83,10 +83,11 @@ rest g c =
 
 steps : (g : given.Over) (c : Joined-look g)
     → StepsAsPlain g.R.Receipt.state (events.Look c.args.lba c.args.sectors) c.match-look.result
-    (volume_of c.self.inside.objects c.self.inside.log) (volume_of c.look.new.objects c.look.new.log)
+    (volume_with c.self.inside.objects c.self.inside.log c.self.inside.plan)
+    (volume_with c.look.new.objects c.look.new.log c.self.inside.plan)
 steps g c =
     let inside = c.self.inside in
-    let volume : VolumeState = volume_of inside.objects inside.log in
+    let volume : VolumeState = volume_with inside.objects inside.log inside.plan in
     let lba = c.args.lba in
     let sectors = c.args.sectors in
     let objects = c.look.new.objects in
@@ -119,11 +120,12 @@ steps g c =
           (says.memory (ap Err w.in-Err-OutOfMemory.field-0-is)))
     ]
 
-counts_grow : (g : given.Over) (c : Joined-look g) → CountsGrow (volume_of c.self.inside.objects c.self.inside.log)
-    (volume_of c.look.new.objects c.look.new.log)
+counts_grow : (g : given.Over) (c : Joined-look g) → CountsGrow
+    (volume_with c.self.inside.objects c.self.inside.log c.self.inside.plan)
+    (volume_with c.look.new.objects c.look.new.log c.self.inside.plan)
 counts_grow g c =
     let inside = c.self.inside in
-    let volume : VolumeState = volume_of inside.objects inside.log in
+    let volume : VolumeState = volume_with inside.objects inside.log inside.plan in
     let lba = c.args.lba in
     let sectors = c.args.sectors in
     let objects = c.look.new.objects in
@@ -140,7 +142,8 @@ counts_grow g c =
     ]
 
 grow : (g : given.Over) (c : Joined-look g)
-    → NumbersGrow (volume_of c.self.inside.objects c.self.inside.log) (volume_of c.look.new.objects c.look.new.log)
+    → NumbersGrow (volume_with c.self.inside.objects c.self.inside.log c.self.inside.plan)
+    (volume_with c.look.new.objects c.look.new.log c.self.inside.plan)
 grow g c =
     numbers_grow g.R.Receipt.state (events.Look c.args.lba c.args.sectors) c.match-look.result _ _ c.self.invariant.plain
     c.self.invariant.shows (steps g c) (counts_grow g c)
@@ -148,7 +151,7 @@ grow g c =
 pub invariant_of-self : goal.invariant_of-self
 invariant_of-self g c =
     let inside = c.self.inside in
-    let volume : VolumeState = volume_of inside.objects inside.log in
+    let volume : VolumeState = volume_with inside.objects inside.log inside.plan in
     let ready = subst IsReadyForStep (sym c.self.view_is) c.requires in
     steps_keep_volume g.R.Receipt.state (events.Look c.args.lba c.args.sectors) c.match-look.result volume
     (with_both c.look.new.objects c.look.new.log volume) inside.steps c.self.invariant ready (steps g c) (grow g c)
@@ -181,7 +184,7 @@ has_its_bytes g c =
 pub returns-clause-step : goal.returns-clause-step
 returns-clause-step g c =
     let inside = c.self.inside in
-    let volume : VolumeState = volume_of inside.objects inside.log in
+    let volume : VolumeState = volume_with inside.objects inside.log inside.plan in
     let new : VolumeState = with_both c.look.new.objects c.look.new.log volume in
     let left = rest g c in
     let geometry = ap (λ (b : BatchState). b.geometry) c.look.ensures.batch in
@@ -194,6 +197,7 @@ returns-clause-step g c =
       numbers = grow g c;
       stops = still_keeps (events.Look c.args.lba c.args.sectors) volume new
           (record { uuid = left.uuid; geometry = geometry }) (is_still g c);
+      copying = refl;
       faults = search rules;
       bytes = same_bytes volume new left.sealed left.frontier;
     })

@@ -1,6 +1,6 @@
 use Rattle.std.proofs.Common.{◌≡◌, true, false, refl, sym, subst}
 use Rattle.vol_core.specs.declared.event.Event.TheVariants as events
-use Rattle.vol_core.specs.Volume.{VolumeState, volume_of}
+use Rattle.vol_core.specs.Volume.{VolumeState, volume_with}
 use Rattle.vol_core.specs.Step.{StepOf}
 use Rattle.vol_core.specs.Calls.{IsReadyForStep}
 use Rattle.vol_core.proofs.StepLemmas.{with_objects, steps_keep_volume, step_seen}
@@ -12,11 +12,12 @@ use Rattle.vol_core.proofs.volume.Volume.release.Goals as goal
 -- the plan is given back, or one of its objects is not pinned
 step : (g : given.Over) (c : Joined-release g)
     → StepOf g.R.Receipt.state (events.Release c.args.plan) c.match-release.result
-    (volume_of c.self.inside.objects c.self.inside.log) (volume_of c.release.new.objects c.self.inside.log)
+    (volume_with c.self.inside.objects c.self.inside.log c.self.inside.plan)
+    (volume_with c.release.new.objects c.self.inside.log c.self.inside.plan)
 step g c =
     let state = g.R.Receipt.state in
     let inside = c.self.inside in
-    let volume : VolumeState = volume_of inside.objects inside.log in
+    let volume : VolumeState = volume_with inside.objects inside.log inside.plan in
     let plan = c.args.plan in
     let objects = c.release.new.objects in
     let new : VolumeState = with_objects objects volume in
@@ -38,7 +39,7 @@ step g c =
 pub invariant_of-self : goal.invariant_of-self
 invariant_of-self g c =
     let inside = c.self.inside in
-    let volume : VolumeState = volume_of inside.objects inside.log in
+    let volume : VolumeState = volume_with inside.objects inside.log inside.plan in
     let ready = subst IsReadyForStep (sym c.self.view_is) c.requires in
     let of = step g c in
     steps_keep_volume g.R.Receipt.state (events.Release c.args.plan) c.match-release.result volume
@@ -47,4 +48,4 @@ invariant_of-self g c =
 pub returns-clause-step : goal.returns-clause-step
 returns-clause-step g c =
     step_seen g.R.Receipt.state (events.Release c.args.plan) c.match-release.result
-    (volume_of c.release.new.objects c.self.inside.log) _ _ c.self.view_is (step g c)
+    (volume_with c.release.new.objects c.self.inside.log c.self.inside.plan) _ _ c.self.view_is (step g c)

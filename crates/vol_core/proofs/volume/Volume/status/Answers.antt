@@ -1,7 +1,7 @@
 use Rattle.std.proofs.Common.{refl, subst}
 use Rattle.vol_core.specs.declared.event.Event.TheVariants as events
 use Rattle.vol_core.specs.declared.reply.Reply.TheVariants as replies
-use Rattle.vol_core.specs.Volume.{VolumeState, SteppedVolume, volume_of}
+use Rattle.vol_core.specs.Volume.{VolumeState, SteppedVolume, volume_with}
 use Rattle.vol_core.specs.Step.{StepOf}
 use Rattle.vol_core.proofs.ObjectSteps.{status_steps}
 use Rattle.vol_core.proofs.StepsOf.{step_of_same}
@@ -11,7 +11,7 @@ pub returns : goal.returns
 returns g c =
     let state = g.R.Receipt.state in
     let inside = c.self.inside in
-    let volume : VolumeState = volume_of inside.objects inside.log in
+    let volume : VolumeState = volume_with inside.objects inside.log inside.plan in
     let writes = c.next_seq.result in
     let sealed = c.last.result in
     let frontier = c.frontier.result in
@@ -24,4 +24,4 @@ returns g c =
     c.batch.ensures c.next_seq.ensures (rw c.uploads-uploads.ensures at c.last.ensures)
     (rw c.uploads-uploads.ensures at c.frontier.ensures.is) (rw c.uploads-uploads.ensures at c.newest_checkpoint.ensures) in
     subst (λ (s : SteppedVolume). StepOf state events.Status reply s.volume s.volume) c.self.view_is
-    (step_of_same state events.Status reply volume is.plain is.shows steps tt tt refl)
+    (step_of_same state events.Status reply volume is.plain is.shows steps tt tt refl (λ was. refl))

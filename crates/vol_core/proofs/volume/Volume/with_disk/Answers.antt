@@ -11,13 +11,13 @@ invariant_of-self g c =
     let rest = c.with_disk.ensures.rest in
     record {
       plain = _;
-      shows = shows_lent inside.objects inside.log c.with_disk.new.self is.plain rest is.shows;
+      shows = shows_lent inside.objects inside.plan inside.log c.with_disk.new.self is.plain rest is.shows;
       steps = is.steps;
-      small = small_lent inside.objects inside.log c.with_disk.new.self inside.steps rest is.small;
+      small = small_lent inside.objects inside.plan inside.log c.with_disk.new.self inside.steps rest is.small;
     }
 
 pub returns-clause-shows : goal.returns-clause-shows
 returns-clause-shows g c = λ plain shows.
     let inside = c.self.inside in
-    shows_lent inside.objects inside.log c.with_disk.new.self plain c.with_disk.ensures.rest
+    shows_lent inside.objects inside.plan inside.log c.with_disk.new.self plain c.with_disk.ensures.rest
     (subst (λ (v : SteppedVolume). Shows v.volume plain) (sym c.self.view_is) shows)
