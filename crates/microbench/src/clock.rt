@@ -16,6 +16,19 @@ impl Start {
             nanoseconds: now(rt)?,
         })
     }
+
+    /// How many nanoseconds went by since then. The error is that of the clock.
+    pub fn elapsed(&self, rt: &HostRuntime) -> io::Result<u64> {
+        Ok(now(rt)?.wrapping_sub(self.nanoseconds))
+    }
+
+    /// The same, and from here on times are counted from now.
+    pub fn lap(&mut self, rt: &HostRuntime) -> io::Result<u64> {
+        let end = Start::now(rt)?;
+        let took = end.nanoseconds.wrapping_sub(self.nanoseconds);
+        *self = end;
+        Ok(took)
+    }
 }
 
 // The nanoseconds that the program has taken.
@@ -45,7 +58,7 @@ impl Report {
         calls: u64,
         what: &str,
     ) -> Result<(), BenchError> {
-        let took = now(rt)?.wrapping_sub(start.nanoseconds) / calls.max(1);
+        let took = start.elapsed(rt)? / calls.max(1);
         if self.is_timed {
             println!(rt; "{took:>12} ns: {what}").map_err(BenchError::from)
         } else {

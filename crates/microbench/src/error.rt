@@ -2,6 +2,7 @@ use lsvd_fault::Failed;
 use std::alloc::AllocError;
 use std::io;
 use thiserror::Error;
+use volume_owner::OwnerError;
 
 /// Why a round was not made.
 #[derive(Clone, Copy, Debug, Error)]
@@ -29,6 +30,15 @@ impl From<AllocError> for BenchError {
 impl From<Failed> for BenchError {
     fn from(_error: Failed) -> BenchError {
         BenchError::Answer
+    }
+}
+
+impl From<OwnerError> for BenchError {
+    fn from(error: OwnerError) -> BenchError {
+        match error {
+            OwnerError::OutOfMemory => BenchError::Memory,
+            OwnerError::Range | OwnerError::Eio => BenchError::Answer,
+        }
     }
 }
 

@@ -3,23 +3,29 @@
 //!
 //! Maps stand beside trees of as many numbers, and seals, also of checkpoints, beside plain copies of as
 //! many bytes. With the word `time` it makes a whole round and tells the processor time of each call; with a
-//! number it overwrites blocks so often, with checkpoints and removals, and tells what objects are left.
-//! Without a word the round is small and no time is told, so that what is written is always the same. It has
-//! no contract, since nothing is claimed of what is timed. It stands on `vol_core`, `extent_map` and the
-//! crates below them.
+//! number it overwrites blocks so often, with checkpoints and removals, and tells what objects are left. With
+//! the word `collection` it overwrites blocks with and without a collection, and tells what the store holds,
+//! what is put into it, and the processor time. Without a word the rounds are small and no time is told, so
+//! that what is written is always the same. It has no contract, since nothing is claimed of what is timed. It
+//! stands on `volume_owner`, `vol_core`, `extent_map` and the crates below them.
 #![tactic(auto)]
 
 mod clock;
+mod collection;
 mod disk;
 mod error;
+mod figures;
 mod history;
 mod maps;
 mod numbers;
+mod overwritten;
 mod receipt;
 mod steps;
+mod store;
 mod volume;
 
 use clock::Report;
+use collection::{tell_collections, tell_small_collection};
 use error::BenchError;
 use history::tell_history;
 use lsvd_base::Geometry;
@@ -79,20 +85,25 @@ enum Asked {
     Whole,
     // So many overwrites, with checkpoints and removals.
     History(u64),
+    // Overwrites with and without a collection.
+    Collection,
 }
 
 fn main(rt: HostRuntime) -> Result<(), BenchError> {
     match request_of(&rt)? {
         Asked::Small => {
             make_round(&rt, Report::new(false), &SMALL)?;
-            tell_history(&rt, 2_000)
+            tell_history(&rt, 2_000)?;
+            tell_small_collection(&rt)
         }
         Asked::Whole => make_round(&rt, Report::new(true), &WHOLE),
         Asked::History(writes) => tell_history(&rt, writes),
+        Asked::Collection => tell_collections(&rt),
     }
 }
 
-// What the first word asks for: a number for a history of so many writes, another word for a whole round.
+// What the first word asks for: a number for a history of so many writes, `collection` for overwrites with a
+// collection, another word for a whole round.
 fn request_of(rt: &HostRuntime) -> Result<Asked, BenchError> {
     let mut words = env::args(rt)?;
     let _program = words.next();
@@ -100,6 +111,7 @@ fn request_of(rt: &HostRuntime) -> Result<Asked, BenchError> {
         None => Asked::Small,
         Some(word) => match word.parse::<u64>() {
             Ok(writes) => Asked::History(writes),
+            Err(_) if word.as_str() == "collection" => Asked::Collection,
             Err(_) => Asked::Whole,
         },
     })

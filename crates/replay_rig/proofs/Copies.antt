@@ -13,7 +13,6 @@ use Rattle.vol_core.specs.declared.event.Event.TheVariants.{SealCheckpoint, Take
 use Rattle.vol_core.specs.declared.event.Event.TheVariants.{RemoveFailed, PlanCopy, SealCopy}
 use Rattle.vol_core.specs.declared.event.Event.TheVariants.{DropPlan, Status}
 use Rattle.vol_core.specs.declared.reply.Reply.{Reply}
-use Rattle.vol_core.specs.declared.reply.Reply.TheVariants as told
 use Rattle.vol_core.specs.Volume.{VolumeState, SteppedVolume}
 use Rattle.vol_core.specs.Events.{IsPlanned}
 use Rattle.vol_core.specs.Step.{ChangesPlan}
@@ -94,7 +93,3 @@ pub some_held : (rig now : RigState) (copied : Option CopiedState) → rig ≡ n
     → ((plain : PlainState) → ShowsPlain now plain → IsTrue (is_some plain.plan)) → is_some copied ≡ true
 some_held rig now copied same known held out =
     held_shown rig copied known.0 held known.1 ∙ out known.0 (subst (λ (r : RigState). ShowsPlain r known.0) same known.1)
-
-pub none_is_held : (copied : Option CopiedState) → copied ≡ None → is_some copied ≡ true → ⊥
-none_is_held None none some = cc
-none_is_held (Some copied) none some = cc

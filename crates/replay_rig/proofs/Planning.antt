@@ -25,7 +25,7 @@ use Rattle.vol_core.specs.declared.reply.Reply.{Reply}
 use Rattle.vol_core.specs.declared.reply.Reply.TheVariants as told
 use Rattle.vol_core.specs.Volume.{VolumeState, SteppedVolume}
 use Rattle.vol_core.specs.Events.{Asks, Tells, TellsRefusal, TellsSealRefusal, IsPlanned, IsOfPlan}
-use Rattle.vol_core.specs.Step.{CountedStep, ChangesPlan, lacks_memory, may_lack_memory}
+use Rattle.vol_core.specs.Step.{CountedStep, ChangesPlan, HandsBack, lacks_memory, may_lack_memory}
 use Rattle.replay_rig.specs.declared.answer.Answer.{Answer}
 use Rattle.replay_rig.specs.declared.answer.Answer.TheVariants as answers
 use Rattle.replay_rig.specs.Answers.{SaysReply, SaysCounts}
@@ -347,12 +347,11 @@ seal_answers old volume copied reply (Ok answer) planned of says = record {
       ];
 }
 
--- where it was neither sealed nor handed back, the plan is given up
-pub seal_given_up : (old : RigState) (middle volume : SteppedVolume) (copied : CopiedState) (first reply : Reply Kept)
-    (plain : PlainState)
-    → IsPlanned old.volume.volume.plan copied → CountedStep told_receipt (SealCopy copied) first old.volume middle
-    → CountedStep told_receipt DropPlan reply middle volume → ShowsPlain old plain
-    → ShowsNoPlan (rig_of volume old.objects old.puts old.is_stopping (old.lines + 1))
-seal_given_up old middle volume copied first reply plain planned of back h =
-    let (between, shown) = seal_shows old middle copied first plain planned of h in
-    given_up old middle volume (SealCopy copied) first reply plain between h of shown back
+-- no other reply comes
+pub sealed_or_refused : (copied : CopiedState) (reply : Reply Kept) → HandsBack (SealCopy copied) reply
+    → ((number : ℕ) → reply ≡ told.Sealed number → ⊥)
+    → ((back : CopiedState) (why : SealRefusal) → reply ≡ told.NotSealed back why → ⊥)
+    → ⊥
+sealed_or_refused copied (told.Sealed number) hands sealed refused = sealed number refl
+sealed_or_refused copied (told.NotSealed back why) hands sealed refused = refused back why refl
+sealed_or_refused copied reply hands sealed refused = hands

@@ -285,22 +285,14 @@ impl Rig {
         ensures lines { self.new.lines ≤ self.old.lines + 1 }
     {
         self.lines += 1;
-        let copied = match self.copied.take() {
-            Some(copied) => copied,
-            None => return Ok(Answer::Nothing),
-        };
+        let copied = self.copied.take().unwrap();
         match self.volume.step(Event::SealCopy(copied)) {
+            Reply::Sealed(number) => Ok(Answer::Sealed(number)),
             Reply::NotSealed { copied, why } => {
                 self.copied = Some(copied);
                 answer_of_seal(why)
             }
-            Reply::Sealed(number) => Ok(Answer::Sealed(number)),
-            reply => {
-                // A volume seals what was copied or hands it back, so this does not come.
-                drop(reply);
-                drop(self.volume.step(Event::DropPlan));
-                Err(AllocError)
-            }
+            _ => unreachable!(),
         }
     }
 

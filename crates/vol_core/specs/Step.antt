@@ -88,15 +88,30 @@ CountsFault reply old new = Counts (tells_fault reply) old.log.commits.disk.faul
 
 -- ---- what is handed back
 
--- a reply hands back the entry, the plan, the job, the receipt or the copy of an event that was not carried out
+-- What an event owned was used, or the reply hands it back: the entry, the plan, the job, the receipt or the copy. There is no
+-- other reply to such an event.
 abbrev pub HandsBack : {R : Type 0} → Event R → Reply R → Type 0
+HandsBack (Write lba body) (told.Entered count) = Unit {0}
 HandsBack (Write lba body) (told.NotEntered entry why) = entry ≡ entries.Write lba body
+HandsBack (Write lba body) reply = ⊥
+HandsBack (Zero lba sectors) (told.Entered count) = Unit {0}
 HandsBack (Zero lba sectors) (told.NotEntered entry why) = entry ≡ entries.Zero lba sectors
+HandsBack (Zero lba sectors) reply = ⊥
+HandsBack (Release plan) told.Released = Unit {0}
 HandsBack (Release plan) (told.NotReleased back) = back ≡ plan
+HandsBack (Release plan) reply = ⊥
+HandsBack (JobDone job receipt) (told.Done frontier) = Unit {0}
 HandsBack (JobDone job receipt) (told.NotDone back given) = (back ≡ job) × (given ≡ receipt)
+HandsBack (JobDone job receipt) reply = ⊥
+HandsBack (JobFailed job) told.Returned = Unit {0}
 HandsBack (JobFailed job) (told.NotReturned back) = back ≡ job
+HandsBack (JobFailed job) reply = ⊥
+HandsBack (RemoveFailed receipt) told.GivenBack = Unit {0}
 HandsBack (RemoveFailed receipt) (told.NotGivenBack back) = back ≡ receipt
+HandsBack (RemoveFailed receipt) reply = ⊥
+HandsBack (SealCopy copied) (told.Sealed number) = Unit {0}
 HandsBack (SealCopy copied) (told.NotSealed back why) = back ≡ copied
+HandsBack (SealCopy copied) reply = ⊥
 HandsBack event reply = Unit {0}
 
 -- ---- a plan

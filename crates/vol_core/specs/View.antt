@@ -6,6 +6,7 @@ use Rattle.lsvd_base.specs.declared.geometry.Geometry.{Geometry}
 use Rattle.lsvd_device.specs.Device.{DiskState}
 use Rattle.lsvd_names.specs.declared.name.ObjName.{ObjName}
 use Rattle.upload_window.specs.declared.object.OpenObject.{OpenObject}
+use Rattle.gc_copier.specs.Plan.{PlanState}
 use Rattle.object_stream.specs.Replay.{object_name}
 use Rattle.object_uploads.specs.State.{UploadsState}
 use Rattle.object_uploads.specs.Changes.{IsOut}
@@ -78,6 +79,10 @@ IsPutOutIn volume number bytes = IsOut volume.objects.uploads number bytes
 -- no plan of a read has pinned an object
 abbrev pub HasNoPins : VolumeState → Type 0
 HasNoPins volume = (number : ℕ) → pins_on volume number ≡ 0
+
+-- the plan of a copy that is out
+abbrev pub plan_out : VolumeState → Option PlanState
+plan_out volume = volume.plan
 
 -- the object whose removal is out
 abbrev pub removal_out : VolumeState → Option ℕ

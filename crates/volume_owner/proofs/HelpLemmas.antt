@@ -2,7 +2,7 @@
 use Rattle.std.proofs.Common.{arith, ◌≡◌, ℕ, ◌+◌, ◌*◌, ◌-◌, ◌<◌, ◌≤◌, ◌==◌, ◌⊎◌, inl, inr}
 use Rattle.std.proofs.Common.{Bool, true, false, cond, not, ◌&&◌, List}
 use Rattle.std.proofs.Common.{[], ◌∷◌, ◌++◌, length, take, length-append, length-drop, refl, sym, ◌∙◌, ap, subst}
-use Rattle.std.specs.Prelude.{Option, Some, None, Result, Ok, Err, IfOk, if◌then◌else◌}
+use Rattle.std.specs.Prelude.{Option, Some, None, is_some, Result, Ok, Err, IfOk, if◌then◌else◌}
 use Rattle.std.specs.List.{list_any}
 use Rattle.std.proofs.lemmas.Bool.Decides.{nat_tests}
 use Rattle.std.proofs.lemmas.List.{take_all}
@@ -12,6 +12,7 @@ use Rattle.lsvd_names.specs.Names.{numbered_name}
 use Rattle.lsvd_device.specs.Calls.{Fuse}
 use Rattle.lsvd_objstore.specs.Store.{ReceiptState}
 use Rattle.object_stream.specs.declared.object.Content.TheVariants.{Data}
+use Rattle.object_stream.specs.declared.object.CopiedSector.{CopiedSector}
 use Rattle.object_stream.specs.declared.object.StreamObject.{StreamObject}
 use Rattle.object_stream.specs.Stream.{end_after, end_at, last_number, GoesTo, EndsFollow}
 use Rattle.object_stream.proofs.StreamLemmas.{end_in_parts}
@@ -30,6 +31,7 @@ use Rattle.plain_disk.specs.Checkpoints.{checkpoint_at, is_started_checkpoint}
 use Rattle.plain_disk.specs.State.{PlainState, stream_in, unsealed_entries}
 use Rattle.plain_disk.specs.Objects.{is_under_way, is_busy, has_unsealed, end_of_next, reply_of_taken, window_after_take}
 use Rattle.plain_disk.specs.Objects.{window_after_done, seal_reply, after_seal}
+use Rattle.plain_disk.specs.Collection.{reply_of_plan, planned_copy}
 use Rattle.plain_disk.specs.Reads.{are_pinned}
 use Rattle.plain_disk.specs.Removals.{to_remove, reply_of_removal, is_out}
 use Rattle.plain_disk.specs.Step.{plain_reply, plain_after}
@@ -71,6 +73,9 @@ is_silent (events.RemoveFailed number) = true
 is_silent events.TakeJob = true
 is_silent (events.JobDone job) = true
 is_silent (events.JobFailed job) = true
+is_silent events.PlanCopy = true
+is_silent (events.SealCopy is_planned) = true
+is_silent events.DropPlan = true
 is_silent events.Status = true
 is_silent event = false
 
@@ -86,6 +91,11 @@ removal_reply : (out lowest : Option ℕ) → reply_of_removal out lowest ≡ re
 removal_reply None (Some number) is = cc
 removal_reply None None is = cc
 removal_reply (Some other) lowest is = cc
+
+planning_reply : (out : Option (List CopiedSector)) (sectors : List CopiedSector) → reply_of_plan out sectors ≡ replies.Fault → ⊥
+planning_reply (Some plan) sectors is = cc
+planning_reply None [] is = cc
+planning_reply None (first ∷ more) is = cc
 
 silent_reply : (plain : PlainState) (event : PlainEvent) → is_silent event ≡ true → plain_reply plain event ≡ replies.Fault → ⊥
 silent_reply plain (events.Write lba body) silent is = cc
@@ -111,9 +121,14 @@ silent_reply plain (events.RemoveDone number) silent is =
     either_reply (is_out number plain.removal) replies.Removed replies.Nothing (λ e. cc) (λ e. cc) is
 silent_reply plain (events.RemoveFailed number) silent is =
     either_reply (is_out number plain.removal) replies.GivenBack replies.Nothing (λ e. cc) (λ e. cc) is
-silent_reply plain events.PlanCopy silent is = cc
-silent_reply plain (events.SealCopy is_planned) silent is = cc
-silent_reply plain events.DropPlan silent is = cc
+silent_reply plain events.PlanCopy silent is = planning_reply plain.plan (planned_copy plain) is
+silent_reply plain (events.SealCopy is_planned) silent is =
+    either_reply (is_some plain.plan && is_planned)
+    (if is_busy plain then replies.Busy else replies.Sealed (plain.window.last + 1))
+    replies.Nothing
+    (either_reply (is_busy plain) replies.Busy (replies.Sealed (plain.window.last + 1)) (λ e. cc) (λ e. cc)) (λ e. cc) is
+silent_reply plain events.DropPlan silent is =
+    either_reply (is_some plain.plan) replies.Dropped replies.Nothing (λ e. cc) (λ e. cc) is
 silent_reply plain events.Status silent is = cc
 
 -- no call of the device fails in it

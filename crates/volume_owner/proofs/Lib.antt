@@ -9,6 +9,7 @@ pub mod EnterLemmas
 pub mod PutLemmas
 pub mod HelpLemmas
 pub mod ClearLemmas
+pub mod CollectLemmas
 pub mod ActLemmas
 pub mod CallLemmas
 pub mod RemoveLemmas

@@ -1,7 +1,9 @@
 -- Which replies of a volume tell a reply of the plain volume.
-use Rattle.std.proofs.Common.{◌≡◌, ℕ, true, false, refl, ap}
+use Rattle.std.proofs.Common.{◌≡◌, ℕ, true, false, List, refl, ap}
 use Rattle.lsvd_objstore.specs.Store.{ReceiptState}
 use Rattle.object_uploads.specs.State.{JobState}
+use Rattle.gc_copier.specs.Plan as copies
+use Rattle.object_stream.specs.declared.object.CopiedSector.{CopiedSector}
 use Rattle.read_plan.specs.Plan.{PlanState}
 use Rattle.batcher.specs.declared.full.Full.TheVariants as full
 use Rattle.plain_disk.specs.declared.event.PlainReply.{PlainReply}
@@ -54,6 +56,45 @@ tells_entered state volume told.Nothing count tells = let bad : ⊥ = cc in absu
 tells_entered state volume told.Busy count tells = let bad : ⊥ = cc in absurd bad
 tells_entered state volume told.Fault count tells = let bad : ⊥ = cc in absurd bad
 tells_entered state volume told.OutOfMemory count tells = absurd tells
+
+-- that a copy was planned
+tells_copying_refusal : (why : EntryRefusal) (sectors : List CopiedSector) → TellsRefusal why (replies.Copying sectors) → ⊥
+tells_copying_refusal refusals.Range sectors tells = cc
+tells_copying_refusal (refusals.Full (full.Sectors room)) sectors tells = cc
+tells_copying_refusal (refusals.Full (full.Entries entries)) sectors tells = cc
+tells_copying_refusal (refusals.NoRoom needed left) sectors tells = cc
+tells_copying_refusal refusals.Fault sectors tells = cc
+tells_copying_refusal refusals.OutOfMemory sectors tells = tells
+
+pub tells_copying : {R : Type 0} (state : R → ReceiptState) (volume : VolumeState) (reply : Reply R) (sectors : List CopiedSector)
+    → Tells state volume reply (replies.Copying sectors) → (plan : copies.PlanState) × (reply ≡ told.Copying plan)
+tells_copying state volume (told.Entered n) sectors tells = let bad : ⊥ = cc in absurd bad
+tells_copying state volume (told.NotEntered entry why) sectors tells = absurd (tells_copying_refusal why sectors tells)
+tells_copying state volume (told.Flushed n) sectors tells = let bad : ⊥ = cc in absurd bad
+tells_copying state volume (told.Planned plan) sectors tells = let is = tells.1 in let bad : ⊥ = cc in absurd bad
+tells_copying state volume told.Released sectors tells = let bad : ⊥ = cc in absurd bad
+tells_copying state volume (told.NotReleased plan) sectors tells = let bad : ⊥ = cc in absurd bad
+tells_copying state volume (told.Sealed n) sectors tells = let bad : ⊥ = cc in absurd bad
+tells_copying state volume (told.Taken job) sectors tells = let is = tells.0 in let bad : ⊥ = cc in absurd bad
+tells_copying state volume (told.Done n) sectors tells = let bad : ⊥ = cc in absurd bad
+tells_copying state volume (told.NotDone job receipt) sectors tells = let bad : ⊥ = cc in absurd bad
+tells_copying state volume told.Returned sectors tells = let bad : ⊥ = cc in absurd bad
+tells_copying state volume (told.NotReturned job) sectors tells = let bad : ⊥ = cc in absurd bad
+tells_copying state volume (told.Removing receipt) sectors tells = let is = tells.0 in let bad : ⊥ = cc in absurd bad
+tells_copying state volume told.Removed sectors tells = let bad : ⊥ = cc in absurd bad
+tells_copying state volume told.GivenBack sectors tells = let bad : ⊥ = cc in absurd bad
+tells_copying state volume (told.NotGivenBack receipt) sectors tells = let bad : ⊥ = cc in absurd bad
+tells_copying state volume (told.Copying plan) sectors tells = (plan, refl)
+tells_copying state volume (told.NotSealed copied seal_refusals.NotPlanned) sectors tells = let bad : ⊥ = cc in absurd bad
+tells_copying state volume (told.NotSealed copied seal_refusals.Busy) sectors tells = let bad : ⊥ = cc in absurd bad
+tells_copying state volume (told.NotSealed copied seal_refusals.OutOfMemory) sectors tells = absurd tells
+tells_copying state volume told.Dropped sectors tells = let bad : ⊥ = cc in absurd bad
+tells_copying state volume (told.Told a b c d) sectors tells = let bad : ⊥ = cc in absurd bad
+tells_copying state volume told.Range sectors tells = let bad : ⊥ = cc in absurd bad
+tells_copying state volume told.Nothing sectors tells = let bad : ⊥ = cc in absurd bad
+tells_copying state volume told.Busy sectors tells = let bad : ⊥ = cc in absurd bad
+tells_copying state volume told.Fault sectors tells = let bad : ⊥ = cc in absurd bad
+tells_copying state volume told.OutOfMemory sectors tells = absurd tells
 
 -- that all is durable
 tells_flushed_refusal : (why : EntryRefusal) (count : ℕ) → TellsRefusal why (replies.Flushed count) → ⊥

@@ -7,3 +7,4 @@ pub mod Errors
 pub mod Replies
 pub mod Helping
 pub mod Clearing
+pub mod Collecting

@@ -1,10 +1,14 @@
 -- For this crate's own clauses: what a reply of the volume tells of what it was asked for.
 use Rattle.std.specs.Prelude.{ℕ, ◌==◌, Bool, true, false, Option, Some, None, Result, Ok, Err}
+use Rattle.gc_copier.specs.Plan as copies
 use Rattle.object_uploads.specs.State.{JobState}
 use Rattle.read_plan.specs.Plan.{PlanState}
 use Rattle.vol_core.specs.declared.reply.EntryRefusal.TheVariants as refusals
 use Rattle.vol_core.specs.declared.reply.Reply.{Reply}
+use Rattle.vol_core.specs.declared.reply.SealRefusal.TheVariants as seal_refusals
 use Rattle.vol_core.specs.declared.reply.Reply.TheVariants as told
+use Rattle.volume_owner.specs.declared.collecting.Turn.{Turn}
+use Rattle.volume_owner.specs.declared.collecting.Turn.TheVariants.{Did, Idle}
 use Rattle.volume_owner.specs.declared.error.OwnerError.{OwnerError}
 use Rattle.volume_owner.specs.declared.error.OwnerError.TheVariants as errors
 use Rattle.volume_owner.specs.declared.replies.Attempt.{Attempt}
@@ -51,3 +55,17 @@ tells_checkpoint reply = false
 abbrev pub receipt_in : {R : Type 0} → Reply R → Option R
 receipt_in (told.Removing receipt) = Some receipt
 receipt_in reply = None
+
+-- of a plan of a copy: none where there is nothing to copy, or one is out
+abbrev pub copying_in : {R : Type 0} → Reply R → Result (Option copies.PlanState) OwnerError
+copying_in (told.Copying plan) = Ok (Some plan)
+copying_in told.Nothing = Ok None
+copying_in told.Busy = Ok None
+copying_in reply = Err errors.OutOfMemory
+
+-- of a seal of what was copied
+abbrev pub turn_in : {R : Type 0} → Reply R → Result Turn OwnerError
+turn_in (told.Sealed number) = Ok Did
+turn_in (told.NotSealed copied seal_refusals.NotPlanned) = Ok Idle
+turn_in (told.NotSealed copied seal_refusals.Busy) = Ok Idle
+turn_in reply = Err errors.OutOfMemory

@@ -1,7 +1,8 @@
 ghost use Rattle.std.specs.Prelude.{◌≡◌};
 ghost use Rattle.volume_owner.specs.declared.error.OwnerError.TheVariants as errors;
-ghost use Rattle.volume_owner.specs.Errors.{of_store};
+ghost use Rattle.volume_owner.specs.Errors.{of_copy, of_store};
 
+use gc_copier::CopyError;
 use lsvd_fault::Failed;
 use lsvd_objstore::StoreError;
 use thiserror::Error;
@@ -35,6 +36,17 @@ impl From<StoreError> for OwnerError {
         match error {
             StoreError::Failed => OwnerError::Eio,
             StoreError::OutOfMemory => OwnerError::OutOfMemory,
+        }
+    }
+}
+
+impl From<CopyError> for OwnerError {
+    ghost from_gives = { λ error e. e ≡ of_copy error };
+
+    fn from(error: CopyError) -> OwnerError {
+        match error {
+            CopyError::Failed { .. } => OwnerError::Eio,
+            CopyError::OutOfMemory => OwnerError::OutOfMemory,
         }
     }
 }

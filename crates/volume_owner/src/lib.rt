@@ -13,6 +13,7 @@
 #![tactic(auto)]
 
 mod clearing;
+mod collecting;
 mod draining;
 mod entering;
 mod error;
@@ -22,6 +23,7 @@ mod owner;
 mod reading;
 mod replies;
 
+pub use collecting::Turn;
 pub use error::OwnerError;
 pub use laws::{a_new_volume_is_idle, acts_keep_the_store};
 pub use owner::Owner;

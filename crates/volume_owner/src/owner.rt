@@ -4,7 +4,9 @@ ghost use Rattle.lsvd_base.specs.Limits.{is_within_limits};
 ghost use Rattle.vol_core.specs.View.{volume_geometry, volume_uuid};
 ghost use Rattle.volume_owner.specs.Owner.{IsIdle, max_steps};
 ghost use Rattle.volume_owner.specs.Calls.{EnterOf, FlushOf, DrainOf, ReadOf};
+ghost use Rattle.volume_owner.specs.Collecting.{CollectOf};
 
+use crate::collecting::{Turn, collect};
 use crate::draining::drain;
 use crate::entering::enter;
 use crate::error::OwnerError;
@@ -92,6 +94,25 @@ impl<D: Disk, R: Receipt> Owner<D, R> {
         ensures { FlushOf R.state result self.old self.new }
     {
         flush(&mut self.volume)
+    }
+
+    /// One turn of a collection: copies live sectors out of objects of which few are live, and seals them as
+    /// the next object. Answers whether one was sealed.
+    ///
+    /// What is live is told by the objects that are acknowledged. So a turn that comes before the last copy
+    /// is would copy the same sectors again: let it be put first, as the next full batch or a drain does.
+    ///
+    /// `Eio` comes where a get failed, which the store counted, and `OutOfMemory` where memory ran out;
+    /// `Range` never comes. After an error the volume is as it was.
+    pub fn collect<S: Store<Receipt = R>>(
+        &mut self,
+        alloc: Global,
+        store: &mut S,
+    ) -> Result<Turn, OwnerError>
+        requires { self.old.steps ≤ max_steps }
+        ensures { CollectOf R.state result self.old self.new (S.state store.old) (S.state store.new) }
+    {
+        collect(alloc, &mut self.volume, store)
     }
 
     /// Seals and puts until no entry is unsealed and each object is acknowledged, seals and puts a checkpoint

@@ -1,13 +1,15 @@
 ghost use Rattle.std.specs.Prelude.{◌≡◌};
 ghost use Rattle.volume_owner.specs.Replies.{attempt_in, job_in, plan_in, count_in, seal_in};
-ghost use Rattle.volume_owner.specs.Replies.{tells_checkpoint, receipt_in};
+ghost use Rattle.volume_owner.specs.Replies.{tells_checkpoint, receipt_in, copying_in, turn_in};
 
+use crate::collecting::Turn;
 use crate::error::OwnerError;
+use gc_copier::GcPlan;
 use lsvd_base::Entry;
 use lsvd_objstore::Receipt;
 use object_uploads::Job;
 use read_plan::Plan;
-use vol_core::{EntryRefusal, Reply};
+use vol_core::{EntryRefusal, Reply, SealRefusal};
 
 /// What came of one attempt to enter an entry.
 #[derive(Drop)]
@@ -137,6 +139,40 @@ pub(crate) fn receipt_of<R: Receipt>(reply: Reply<R>) -> Option<R>
         other => {
             drop(other);
             None
+        }
+    }
+}
+
+/// The plan of a copy that a reply hands out, or None where there is nothing to copy, or a plan is out.
+pub(crate) fn copying_of<R: Receipt>(reply: Reply<R>) -> Result<Option<GcPlan<R>>, OwnerError>
+    ensures { result ≡ copying_in reply }
+{
+    match reply {
+        Reply::Copying(plan) => Ok(Some(plan)),
+        Reply::Nothing | Reply::Busy => Ok(None),
+        other => {
+            drop(other);
+            Err(OwnerError::OutOfMemory)
+        }
+    }
+}
+
+/// Whether a reply tells that what was copied was sealed, or that it was refused.
+pub(crate) fn turn_of<R: Receipt>(reply: Reply<R>) -> Result<Turn, OwnerError>
+    ensures { result ≡ turn_in reply }
+{
+    match reply {
+        Reply::Sealed(_) => Ok(Turn::Did),
+        Reply::NotSealed { copied, why } => {
+            drop(copied);
+            match why {
+                SealRefusal::NotPlanned | SealRefusal::Busy => Ok(Turn::Idle),
+                SealRefusal::OutOfMemory => Err(OwnerError::OutOfMemory),
+            }
+        }
+        other => {
+            drop(other);
+            Err(OwnerError::OutOfMemory)
         }
     }
 }

@@ -8,6 +8,7 @@
 #![tactic(auto)]
 
 mod answer;
+mod collected;
 mod creating;
 mod fullness;
 mod owned;
@@ -20,6 +21,7 @@ mod step;
 mod texts;
 
 use answer::Answer;
+use collected::tell_collections;
 use fullness::tell_fullness;
 use owned::tell_owner;
 use plain::Plain;
@@ -44,6 +46,7 @@ pub fn tell_all(rt: &HostRuntime) -> Result<(), TestError> {
         tell_plain_row(rt, row)?;
     }
     tell_owner(rt)?;
+    tell_collections(rt)?;
     tell_texts(rt)
 }
 

@@ -18,12 +18,13 @@ const GEOMETRY: Geometry = Geometry {
     log: 40,
 };
 
-// No run here makes as many steps.
-const MOST: u64 = 1_000;
+/// No run makes as many steps.
+pub const MOST: u64 = 1_000;
 
-type MemOwner = Owner<MemDisk, MemReceipt>;
+/// An owner of a volume whose disk is in memory, and its store.
+pub type MemOwner = Owner<MemDisk, MemReceipt>;
 
-type Faulty = FaultStore<MemStore>;
+pub type Faulty = FaultStore<MemStore>;
 
 // The calls of the store that fail, of which two are done all the same.
 const FAULTS: [PlannedFault; 3] = [
@@ -44,13 +45,24 @@ const FAULTS: [PlannedFault; 3] = [
 /// Shows an owner whose batch and log are full time and again, over a store of which calls fail.
 pub fn tell_owner(rt: &HostRuntime) -> Result<(), TestError> {
     head(rt, "# An owner of a small log, over a store that fails")?;
-    let mut store = MemStore::new(rt.alloc());
-    let mut owner = Owner::new(created(rt.alloc(), &mut store, GEOMETRY)?);
-    let mut store = FaultStore::new(rt.alloc(), store, &FAULTS)?;
+    let (mut owner, mut store) = new_owner(rt.alloc(), &FAULTS)?;
     let told = tell_requests(rt, &mut owner, &mut store);
     drop(owner);
     drop(store);
     told
+}
+
+/// The owner of a new volume, over a store of which these calls fail from then on.
+pub fn new_owner(alloc: Global, faults: &[PlannedFault]) -> Result<(MemOwner, Faulty), TestError> {
+    let mut store = MemStore::new(alloc);
+    let owner = Owner::new(created(alloc, &mut store, GEOMETRY)?);
+    match FaultStore::new(alloc, store, faults) {
+        Ok(store) => Ok((owner, store)),
+        Err(AllocError) => {
+            drop(owner);
+            Err(TestError::Memory)
+        }
+    }
 }
 
 fn tell_requests(
@@ -67,8 +79,8 @@ fn tell_requests(
     tell_image(rt, owner, store)
 }
 
-// Writes a number in eight sectors, the next ones for each, and from the ninth on again.
-fn write(
+/// Writes a number in eight sectors, the next ones for each, and from the ninth on again.
+pub fn write(
     alloc: Global,
     owner: &mut MemOwner,
     store: &mut Faulty,
@@ -85,8 +97,8 @@ fn write(
     }
 }
 
-// What a request is to this test that is not carried out.
-fn error_of(error: OwnerError) -> TestError {
+/// What a request is to these tests that is not carried out.
+pub fn error_of(error: OwnerError) -> TestError {
     match error {
         OwnerError::Range | OwnerError::Eio => TestError::Failed,
         OwnerError::OutOfMemory => TestError::Memory,
@@ -121,8 +133,8 @@ fn tell_drain(rt: &HostRuntime, owner: &mut MemOwner, store: &mut Faulty) -> Res
     Ok(())
 }
 
-// How many entries the history has after a drain, and how many objects the store.
-fn drain(
+/// How many entries the history has after a drain, and how many objects the store.
+pub fn drain(
     alloc: Global,
     owner: &mut MemOwner,
     store: &mut Faulty,
@@ -144,8 +156,8 @@ fn tell_image(rt: &HostRuntime, owner: &mut MemOwner, store: &mut Faulty) -> Res
     Ok(())
 }
 
-// The byte that eight sectors are filled with.
-fn read(
+/// The byte that eight sectors are filled with.
+pub fn read(
     alloc: Global,
     owner: &mut MemOwner,
     store: &mut Faulty,
