@@ -12,7 +12,7 @@ end of power, which is what was synced.
     commit    a slot's body is written where its gate is closed, and its gate is opened after body and next gate were synced
     tail      the tail of a commit is not past the objects whose puts are acknowledged, by the sync of the directory
     log       a record stands behind the one before it, and none is written over that the last synced commit has, or a later one
-    write     a write or a zeroing is answered when its record is in the log
+    write     a write or a zeroing is answered when its record is in the log, or the last write to the log failed and is kept
     flush     a flush, and a request that is to be durable, is answered when a synced commit has all records
     epoch     a commit is of an epoch whose object is acknowledged
     creation  a super object gets its name, and a creation is told, after all else of the volume was synced
@@ -88,7 +88,7 @@ class Cache:
         self.slots, self.synced = [0] * SLOTS, [0] * SLOTS
         self.records = []
         self.length = 0
-        self.is_named = self.is_long = self.is_clearing = self.is_clear = False
+        self.is_named = self.is_long = self.is_clearing = self.is_clear = self.has_kept = False
 
     def commit(self):
         """The newest commit that was synced."""
@@ -112,7 +112,9 @@ class Cache:
         return self.slots == self.synced and commit is not None and commit.head == head
 
     def ends_with(self, kind, offset, length, data):
-        """Whether the last record is that of a request; one for no bytes has none."""
+        """Whether the last record is that of a request, or may be, since it is kept; one for no bytes has none."""
+        if self.has_kept:
+            return True
         for last in self.records[-1:]:
             if kind in ENTRIES.get(last.kind, ()) and (512 * last.lba, 512 * last.count, last.data) == (offset, length, data):
                 return True
@@ -135,6 +137,7 @@ class Cache:
             self.slots[at:at + size] = content[:size] or [None] * size
         elif content:
             self.enter(at, content)
+        self.has_kept = LOG_START <= at and not content
 
     def judge_slots(self, at, content, store):
         """A body, a gate, or the zeros of a file that has no commit."""

@@ -64,13 +64,29 @@ class Client:
         check("a reply to an option", (magic, option) == (0x3E889045565A9, number))
         return kind, self.take(length)
 
+    def head(self, kind, offset, length, flags=0):
+        """The head of the next request."""
+        self.cookie += 1
+        return struct.pack(">IHHQQI", 0x25609513, flags, kind, self.cookie, offset, length)
+
+    def reply(self, cookie):
+        """The error that the request of a cookie is answered."""
+        magic, error, found = struct.unpack(">IIQ", self.take(16))
+        check("a reply", (magic, found) == (0x67446698, cookie))
+        return error
+
     def request(self, kind, offset, length, content=b"", flags=0):
         """Makes a request, and gives its error and its data."""
-        self.cookie += 1
-        self.link.sendall(struct.pack(">IHHQQI", 0x25609513, flags, kind, self.cookie, offset, length) + content)
-        magic, error, cookie = struct.unpack(">IIQ", self.take(16))
-        check("a reply", (magic, cookie) == (0x67446698, self.cookie))
+        self.link.sendall(self.head(kind, offset, length, flags) + content)
+        error = self.reply(self.cookie)
         return error, self.take(length) if kind == READ and error == 0 else b""
+
+    def write_at_once(self, pieces, leaves=False):
+        """Sends a write of each piece, at its place, in one call, and gives the errors. With them the client may leave."""
+        first = self.cookie + 1
+        sent = b"".join(self.head(WRITE, offset, len(content)) + content for offset, content in pieces)
+        self.link.sendall(sent + LEAVES * leaves)
+        return [self.reply(cookie) for cookie in range(first, self.cookie + 1)]
 
     def leave(self):
         self.link.sendall(struct.pack(">IHHQQI", 0x25609513, 0, DISCONNECT, 0, 0, 0))

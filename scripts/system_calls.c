@@ -151,6 +151,7 @@ CALL(int, mkdir, (const char *path, mode_t mode), (path, mode), -1, STATUS, PATH
 CALL(int, rename, (const char *from, const char *to), (from, to), -1, STATUS, (PATH(from), PATH(to)))
 CALL(int, unlink, (const char *path), (path), -1, STATUS, PATH(path))
 CALL(int, getentropy, (void *bytes, size_t size), (bytes, size), -1, STATUS, PATH("-"))
+CALL(int, getrlimit, (int what, void *limit), (what, limit), -1, STATUS, PATH("-"))
 CALL(int, statx, (int file, const char *path, int how, unsigned mask, struct statx *found), (file, path, how, mask, found), -1,
      STATUS, PATH(*path ? path : name_of(file)))
 CALL(ssize_t, getdents64, (int file, void *entries, size_t size), (file, entries, size), -1, STATUS, FILE_OF(file))

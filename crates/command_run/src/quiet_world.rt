@@ -73,6 +73,8 @@ impl Disk for QuietDisk {
         Ok(())
     }
 
+    fn hand_over(&mut self) {}
+
     fn faults(&self) -> u64 {
         0
     }

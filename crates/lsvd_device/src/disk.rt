@@ -61,6 +61,12 @@ pub trait Disk {
             → FailsAlone (is_ok result) (state self.old) (state self.new) }
         ensures disk { IsDisk (state self.new) };
 
+    /// Hands to the device what it gathered of writes, if it gathers any, so that they outlast the end of
+    /// this program. For its user nothing changes. What the device does not take stays gathered and is handed
+    /// over with a later call; where that fails too, it is told there.
+    fn hand_over(&mut self)
+        ensures { state self.new ≡ state self.old };
+
     /// How many calls have failed since the disk was made. At `u64::MAX` the count stands.
     fn faults(&self) -> u64
         ensures { result ≡ (state self.now).faults };

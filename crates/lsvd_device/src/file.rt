@@ -57,8 +57,8 @@ pub struct FileDisk<F: RawFile = LockedFile> {
     file: F,
     size: u64,
     faults: u64,
-    /// The window that the last write outside of the first page ended in: the system was asked for it and for
-    /// the next one.
+    /// The window that the last short write outside of the first page ended in: the system was asked for it
+    /// and for the next one.
     window: Option<u64>,
     /// Why the last call that failed did.
     last_error: Option<io::Error>,
@@ -178,8 +178,10 @@ impl<F: RawFile> Disk for FileDisk<F> {
     }
 
     fn write(&mut self, at: u64, piece: &[u8]) -> Result<(), Failed> {
-        let end = at.saturating_add(piece.len() as u64);
-        read_ahead(&self.file, &mut self.window, end);
+        if piece.len() < LONG {
+            let end = at.saturating_add(piece.len() as u64);
+            read_ahead(&self.file, &mut self.window, end);
+        }
         let outcome = self.file.write_at(at, piece);
         judge(&mut self.faults, &mut self.last_error, outcome)
     }
@@ -188,6 +190,8 @@ impl<F: RawFile> Disk for FileDisk<F> {
         let outcome = sync_unless(&mut self.file, &mut self.sync_error);
         judge(&mut self.faults, &mut self.last_error, outcome)
     }
+
+    fn hand_over(&mut self) {}
 
     fn faults(&self) -> u64 {
         self.faults
@@ -239,6 +243,9 @@ const PAGE: u64 = 4096;
 
 // How many bytes of the file are asked for at a time.
 const WINDOW: u64 = 1 << 20;
+
+// From so many bytes on a write is long: it takes longer than to read the page that it ends in.
+const LONG: usize = 1 << 16;
 
 // Asks the system for the pages that later writes will change, where they go on from the end of this one. The
 // first page is written too often to be out of memory, and between others.

@@ -115,6 +115,10 @@ impl<D: Disk> Disk for FuseDisk<D> {
         self.disk.sync()
     }
 
+    fn hand_over(&mut self) {
+        self.disk.hand_over();
+    }
+
     fn faults(&self) -> u64 {
         self.disk.faults().saturating_add(self.failed)
     }

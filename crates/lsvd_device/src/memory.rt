@@ -145,6 +145,8 @@ impl Disk for MemDisk {
         Ok(())
     }
 
+    fn hand_over(&mut self) {}
+
     fn faults(&self) -> u64 {
         self.faults
     }

@@ -263,6 +263,10 @@ impl Sink for MemLink {
 impl Link for MemLink {
     ghost use Rattle.std.proofs.Common.{refl};
 
+    fn holds_back(&self, _: usize, _: usize) -> bool {
+        false
+    }
+
     ghost one_count = { λ _. refl };
 
     ghost one_output = { λ _. refl };

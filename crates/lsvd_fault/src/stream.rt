@@ -63,6 +63,11 @@ pub trait Sink {
 
 /// Bytes that come and go, with one count for both directions.
 pub trait Link: Source + Sink {
+    /// Whether it will hold back what was written to it while `input` more bytes are read, and then `output`
+    /// are written: as far as it knows, neither will have to wait for the outside. A link that holds nothing
+    /// back says no.
+    fn holds_back(&self, input: usize, output: usize) -> bool;
+
     /// Both directions count their faults together.
     ghost one_count: { (link : Self) → Self.Source.faults link ≡ Self.Sink.faults link };
 

@@ -158,6 +158,10 @@ impl Sink for SocketLink {
 impl Link for SocketLink {
     ghost use Rattle.std.proofs.Common.{refl};
 
+    fn holds_back(&self, input: usize, output: usize) -> bool {
+        input <= self.input.waiting().len() && output <= self.output.room()
+    }
+
     ghost one_count = { λ _. refl };
 
     ghost one_output = { λ _. refl };

@@ -12,6 +12,7 @@ ghost use Rattle.lsvd_objstore.specs.Placing.{IsTrusted, IsAsked, Sweeps};
 
 use crate::names::Names;
 use crate::placing::{put_file, remove_file, stands, sync_unless};
+use libc::types::rlimit;
 use lru::LruCache;
 use lsvd_files::{Directory, FileNames};
 use lsvd_names::ObjName;
@@ -66,8 +67,24 @@ impl From<DirectoryError> for io::Error {
     }
 }
 
-// How many files stay open for later reads.
-const OPEN_FILES: usize = 32;
+// How many files stay open for later reads, at least and at most.
+const FEWEST_OPEN: u64 = 32;
+
+const MOST_OPEN: u64 = 4_096;
+
+// How many of the files that the program may have open are left for others.
+const OTHER_FILES: u64 = 128;
+
+// How many files stay open for later reads: as many as the program may have open, but for some.
+fn most_open() -> NonZeroUsize {
+    let mut limit = rlimit {
+        rlim_cur: 0,
+        rlim_max: 0,
+    };
+    let _ = libc::getrlimit(libc::RLIMIT_NOFILE, &mut limit);
+    let count = limit.rlim_cur.saturating_sub(OTHER_FILES);
+    NonZeroUsize::new(count.clamp(FEWEST_OPEN, MOST_OPEN) as usize).unwrap_or(NonZeroUsize::MIN)
+}
 
 /// The objects of a directory: each is a file under the spelling of its name. What is changed stays over a
 /// stop of the machine once the call is done. Contracts see it as the state of the directory, where that
@@ -109,7 +126,7 @@ impl<D: Directory + Drop> ObjectFiles<D> {
             directory,
             is_unsynced: true,
             sync_error: None,
-            open: LruCache::new(alloc, NonZeroUsize::new(OPEN_FILES).unwrap())?,
+            open: LruCache::new(alloc, most_open())?,
         };
         files.settle()?;
         Ok(files)

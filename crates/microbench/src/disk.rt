@@ -56,6 +56,8 @@ impl Disk for PlainBytes {
         Ok(())
     }
 
+    fn hand_over(&mut self) {}
+
     fn faults(&self) -> u64 {
         let _len = self.bytes.len();
         0

@@ -90,6 +90,11 @@ pub trait BlockDevice<S> {
         requires { MayFlush io (state self.old store.old) }
         ensures { Flushes io (is_err result) (state self.old store.old) (state self.new store.new) };
 
+    /// Hands to the device what it gathered of writes, so that what was answered outlasts the end of this
+    /// program. For the volume nothing changes.
+    fn hand_over(&mut self, store: &S)
+        ensures { state self.new store.now ≡ state self.old store.now };
+
     /// To read nothing may be no call.
     ghost reads_nothing: { ReadsNothing io };
 

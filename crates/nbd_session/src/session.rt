@@ -10,16 +10,22 @@ ghost use Rattle.nbd_session.specs.BlockDevice.{HasRoom};
 use crate::asking::asked_of;
 use crate::block_device::BlockDevice;
 use crate::carrying_out::carry_out;
+use crate::command::Command;
 use crate::content::read_content;
 use crate::outcome::ReplyError;
 use lsvd_base::{Body, SECTOR_BYTES};
 use lsvd_fault::{Link, Sink};
 use nbd_options::{Export, NegotiationEnd, negotiate};
-use nbd_wire::{WireEnd, a_message_has_one_reading, read_request, write_simple};
+use nbd_wire::{Request, WireEnd, a_message_has_one_reading, read_request, write_simple};
 use std::alloc::Global;
 
 /// The most requests of one session. The session ends before one more is read.
 pub const MAX_REQUESTS: u64 = 1 << 40;
+
+// How many bytes a request has, without the data that come behind it, and how many a reply.
+const REQUEST_BYTES: usize = 28;
+
+const REPLY_BYTES: usize = 16;
 
 /// The most steps that the volume may have made since it was mounted before a request. Where it has made
 /// more, the session ends.
@@ -63,9 +69,10 @@ impl From<WireEnd> for SessionEnd {
 /// Requests are answered in order, each before the next one is read. A write or a zeroing that is answered
 /// without an error was entered, and one that is answered with one was not, unless it is the flush after it
 /// that failed; a flush that is answered without one, and a request that asks to be durable, has flushed the
-/// device; a read gives what the device gave. What its calls are to the volume's history, the device tells. A
-/// request that is out of form is refused, and the data of a refused write are read and dropped. Memory is
-/// bounded whatever the client sends, since lengths are judged before data are read.
+/// device; a read gives what the device gave. What its calls are to the volume's history, the device tells.
+/// A request that is out of form is refused, and the data of a refused write are read and dropped. Memory is
+/// bounded whatever the client sends, since lengths are judged before data are read. Before replies that the
+/// link holds back may leave it, the device hands over what it gathered.
 ///
 /// The session's end says nothing of the volume, which stays as all that was answered has left it.
 pub fn serve_session<S, B: BlockDevice<S>, K: Link>(
@@ -112,6 +119,7 @@ fn transmit<S, B: BlockDevice<S>, K: Link>(
         if MAX_STEPS <= device.steps(store) {
             return SessionEnd::Spent;
         }
+        hand_over_before(device, link, store, REQUEST_BYTES, 0);
         match serve_request(alloc, device, link, store) {
             Ok(true) => {}
             Ok(false) => return SessionEnd::Ended,
@@ -142,12 +150,40 @@ fn serve_request<S, B: BlockDevice<S>, K: Link>(
     if asked.is_to_disconnect() {
         return Ok(false);
     }
+    let (input, output) = sizes(&request);
+    hand_over_before(device, link, store, input, output);
     let body = read_content(alloc, link, &request, asked)?;
     let outcome = carry_out(alloc, device, store, asked, body);
     let told = reply(link, request.cookie, &outcome);
     drop(outcome);
     told?;
     Ok(true)
+}
+
+// Hands over what the device gathered, where replies that the link holds back may be sent before `input`
+// bytes more were read and then `output` were written.
+fn hand_over_before<S, B: BlockDevice<S>, K: Link>(
+    device: &mut B,
+    link: &K,
+    store: &S,
+    input: usize,
+    output: usize,
+)
+    ensures { B.state device.new store.now ≡ B.state device.old store.now }
+{
+    if !link.holds_back(input, output) {
+        device.hand_over(store);
+    }
+}
+
+// How many bytes come behind a request, and how many its reply has, at most.
+fn sizes(request: &Request) -> (usize, usize) {
+    let length = request.length as usize;
+    match Command::from_kind(request.kind) {
+        Some(Command::Read) => (0, REPLY_BYTES.saturating_add(length)),
+        Some(Command::Write) => (length, REPLY_BYTES),
+        _ => (0, REPLY_BYTES),
+    }
 }
 
 // Writes the reply to the request of a cookie.

@@ -3,7 +3,7 @@ ghost use Rattle.std.specs.Prelude.{◌≡◌, [], All, OnOk};
 
 use crate::dump::tell_bytes;
 use crate::greeting::{Asking, ENTERED_BYTES};
-use crate::volume::{TestDevice, device_of, link_with};
+use crate::volume::{TestDevice, cache_of, device_of, link_with};
 use lsvd_fault::MemLink;
 use lsvd_listen::MemListener;
 use lsvd_objstore::MemStore;
@@ -108,7 +108,8 @@ fn lane_of(alloc: Global, share: u64, failing: u64) -> Result<Lane, TestError> {
     let mut store = MemStore::new(alloc);
     let volume = device_of(alloc, None, &mut store)?.into_volume();
     let mut listener = listener_of(alloc)?.failing_at(failing);
-    let closing = serve_volume(alloc, volume, &mut listener, &mut store, share);
+    let cache = cache_of(alloc)?;
+    let closing = serve_volume(alloc, volume, cache, &mut listener, &mut store, share);
     drop(listener);
     drop(store);
     let lane = closing.lane;

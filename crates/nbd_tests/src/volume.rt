@@ -6,6 +6,7 @@ use lsvd_device::{Disk, FuseDisk, MemDisk};
 use lsvd_fault::{MemLink, MemSink, MemSource};
 use lsvd_objstore::{MemReceipt, MemStore};
 use nbd_session::{SessionEnd, serve_session};
+use read_cache::ReadCache;
 use std::alloc::{AllocError, Global};
 use test_output::TestError;
 use uuid::Uuid;
@@ -29,23 +30,30 @@ const SIZE: u64 = 4_096 + 512 * 64;
 /// The volume as the block device of sessions.
 pub type TestDevice = OwnerDevice<FuseDisk<MemDisk>, MemReceipt>;
 
+/// A cache of a few blocks of objects.
+pub fn cache_of(alloc: Global) -> Result<ReadCache<MemReceipt>, AllocError> {
+    ReadCache::new(alloc, 4)
+}
+
 /// That of a new volume with this store, on a disk that passes so many calls, or all.
 pub fn device_of(
     alloc: Global,
     fuse: Option<u64>,
     store: &mut MemStore,
 ) -> Result<TestDevice, TestError> {
+    let cache = cache_of(alloc)?;
     let disk = MemDisk::new(alloc, SIZE)?;
     let _is_disk = disk.len();
     let disk = FuseDisk::new(disk, fuse);
     match create(alloc, disk, store, Uuid::from_bytes(UUID), GEOMETRY) {
         Ok(volume) => {
             a_new_volume_is_idle();
-            let device = OwnerDevice::new(volume);
+            let device = OwnerDevice::new(volume, cache);
             Ok(device)
         }
         Err((disk, error)) => {
             drop(disk);
+            drop(cache);
             Err(error_of(error))
         }
     }

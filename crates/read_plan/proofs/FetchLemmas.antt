@@ -4,8 +4,8 @@ use Rattle.std.proofs.Common.{refl, sym, ◌∙◌, subst, arith}
 use Rattle.std.specs.Prelude.{IfSome, IsSome, Result, Ok, Err, OnErr}
 use Rattle.std.specs.List.{AllByRecursion}
 use Rattle.std.proofs.lemmas.List.{take_all, drop_all}
-use Rattle.lsvd_objstore.specs.Store.{StoreCall, IsAskedOnce}
-use Rattle.read_plan.specs.Plan.{PieceState, pasted, GivesOver, piece_get, AreAsked}
+use Rattle.lsvd_objstore.specs.Store.{StoreCall}
+use Rattle.read_plan.specs.Plan.{PieceState, pasted, GivesOver, AsksFor, AreAsked}
 
 -- the receipt of a piece tells its object's bytes
 abbrev pub IsToldPiece : PieceState → Type 0
@@ -45,17 +45,16 @@ no_other pieces index under now bytes past all gives given =
     gives now (subst (λ l. GivesOver l now now) (sym (drop_all index pieces past)) refl) in
     alone pieces under bytes now whole given made
 
--- ---- one get more
+-- ---- what is asked
 
--- the get of the next piece is asked after those of the pieces before it
+-- the gets of the next piece are asked after those of the pieces before it
 pub asked_next : (pieces : List PieceState) (index : ℕ) (piece : PieceState) (old now new : Option (List StoreCall))
     → index < length pieces → piece ≡ get_or pieces index piece → AreAsked (take index pieces) old now
-    → IsAskedOnce (piece_get piece) now new → AreAsked (take (suc index) pieces) old new
+    → AsksFor piece now new → AreAsked (take (suc index) pieces) old new
 asked_next [] index piece old now new inside is asked once = absurd (omega (arith, inside))
 asked_next (first ∷ pieces) zero piece old now new inside is same once =
-    let by_first : IsAskedOnce (piece_get first) now new =
-    subst (λ (p : PieceState). IsAskedOnce (piece_get p) now new) is once in
-    (new, subst (λ (o : Option (List StoreCall)). IsAskedOnce (piece_get first) o new) same by_first, refl)
+    let by_first : AsksFor first now new = subst (λ (p : PieceState). AsksFor p now new) is once in
+    (new, subst (λ (o : Option (List StoreCall)). AsksFor first o new) same by_first, refl)
 asked_next (first ∷ pieces) (suc index) piece old now new inside is (between, one, asked) once =
     (between, one, asked_next pieces index piece between now new (omega (arith, inside)) is asked once)
 

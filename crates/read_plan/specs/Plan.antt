@@ -1,7 +1,8 @@
 -- Contract: what is seen of the plan of a read, and the bytes that it gives.
-use Rattle.std.specs.Prelude.{◌≡◌, ℕ, ◌+◌, ◌≤◌, Option, IfSome, List, [], ◌∷◌, length, take}
+use Rattle.std.specs.Prelude.{◌≡◌, ℕ, ◌+◌, ◌≤◌, max, Option, IfSome, List, [], ◌∷◌, length, take}
 use Rattle.std.specs.List.{AllByRecursion}
-use Rattle.lsvd_objstore.specs.Store.{ReceiptState, StoreCall, Get, IsAskedOnce}
+use Rattle.lsvd_objstore.specs.Store.{ReceiptState, StoreCall}
+use Rattle.read_cache.specs.Reading.{AddsGets}
 use Rattle.lsvd_bytes.specs.Places.{bytes_at, with_bytes}
 
 -- a part of a read that an object has
@@ -58,15 +59,16 @@ GivesNoOther plan given = (bytes : List ℕ) → Gives plan bytes → bytes ≡ 
 
 -- ---- the gets that it takes
 
--- the get of a piece: just its bytes of the object
-abbrev pub piece_get : PieceState → StoreCall
-piece_get piece = Get piece.receipt.name piece.from piece.count
+-- where a store tells its gets, at most two were asked of it for a piece: of its object, and none longer than a block of the
+-- cache or than the piece
+abbrev pub AsksFor : PieceState → Option (List StoreCall) → Option (List StoreCall) → Type 0
+AsksFor piece old new = AddsGets piece.receipt (max 65536 piece.count) 2 old new
 
--- where a store tells its gets, those of pieces were asked of it, each once, one after the other
+-- so it was for each of these pieces, one after the other
 abbrev pub AreAsked : List PieceState → Option (List StoreCall) → Option (List StoreCall) → Type 0
 AreAsked [] old new = new ≡ old
 AreAsked (piece ∷ pieces) old new =
-    (between : Option (List StoreCall)) × IsAskedOnce (piece_get piece) old between × AreAsked pieces between new
+    (between : Option (List StoreCall)) × AsksFor piece old between × AreAsked pieces between new
 
 -- those of the first of these pieces were, and no others
 abbrev pub AreAskedOfFirst : List PieceState → Option (List StoreCall) → Option (List StoreCall) → Type 0

@@ -1,10 +1,11 @@
 ghost use Rattle.std.specs.Prelude.{◌≡◌, length, OnOk, IfSome, IsSome, is_err};
 ghost use Rattle.lsvd_fault.specs.Faults.{Counts};
-ghost use Rattle.lsvd_objstore.specs.Store.{IsAskedOnce, OnlyCounts};
-ghost use Rattle.read_plan.specs.Plan.{PieceFits, pasted, piece_get};
+ghost use Rattle.lsvd_objstore.specs.Store.{OnlyCounts};
+ghost use Rattle.read_plan.specs.Plan.{PieceFits, pasted, AsksFor};
 
 use lsvd_fault::Failed;
 use lsvd_objstore::{Receipt, Store};
+use read_cache::ReadCache;
 use std::marker::Model;
 
 // A part of a read that an object has.
@@ -27,11 +28,12 @@ impl<R: Receipt> Model for Piece<R> {
 }
 
 impl<R: Receipt> Piece<R> {
-    // Fetches the part by one get, over the bytes of the read, which it fits (a condition). Where that fails,
-    // any bytes stand in it.
+    // Fetches the part through a cache, over the bytes of the read, which it fits (a condition). Where a get
+    // fails, any bytes stand in it.
     pub(crate) fn fetch<S: Store<Receipt = R>>(
         &self,
         store: &mut S,
+        cache: &mut ReadCache<R>,
         buf: &mut [u8],
     ) -> Result<(), Failed>
         requires { PieceFits (length buf.old) self.now }
@@ -39,11 +41,11 @@ impl<R: Receipt> Piece<R> {
             (λ told. buf.new ≡ pasted self.now told buf.old)) }
         ensures told { ((receipt : R) → IsSome (R.state receipt).told) → IsSome self.now.receipt.told }
         ensures size { length buf.new ≡ length buf.old }
-        ensures asked { IsAskedOnce (piece_get self.now) (S.gets store.old) (S.gets store.new) }
+        ensures asked { AsksFor self.now (S.gets store.old) (S.gets store.new) }
         ensures unchanged { OnlyCounts (S.state store.old) (S.state store.new) }
         ensures count { Counts (is_err result) (S.state store.old).faults (S.state store.new).faults }
     {
         let part = &mut buf[self.at..self.at + self.count];
-        store.get(&self.receipt, self.from, part)
+        cache.read_through(&self.receipt, self.from, part, store)
     }
 }

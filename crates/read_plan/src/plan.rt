@@ -7,6 +7,7 @@ ghost use Rattle.read_plan.specs.Plan.{Gives, GivesNoOther, AreAsked, AreAskedOf
 use crate::piece::Piece;
 use lsvd_fault::Failed;
 use lsvd_objstore::{Receipt, Store};
+use read_cache::ReadCache;
 use std::marker::Model;
 
 /// The plan of a read: the bytes that the log has, and where objects have the others.
@@ -60,11 +61,16 @@ impl<R: Receipt> Plan<R> {
         self.objects.as_slice()
     }
 
-    /// Fetches the bytes of the read into the whole of a buffer of just as many (a condition), by one get for
-    /// each part that an object has. Where the receipts tell their objects' bytes, these are the bytes that
-    /// the plan gives. The first get that fails ends it with `Failed`; the store counted that, and any bytes
-    /// stand in the buffer.
-    pub fn fetch<S: Store<Receipt = R>>(&self, store: &mut S, buf: &mut [u8]) -> Result<(), Failed>
+    /// Fetches the bytes of the read into the whole of a buffer of just as many (a condition), each part that
+    /// an object has through a cache, which asks for two gets of it at most. Where the receipts tell their
+    /// objects' bytes, these are the bytes that the plan gives. The first get that fails ends it with
+    /// `Failed`; the store counted that, and any bytes stand in the buffer.
+    pub fn fetch<S: Store<Receipt = R>>(
+        &self,
+        store: &mut S,
+        cache: &mut ReadCache<R>,
+        buf: &mut [u8],
+    ) -> Result<(), Failed>
         requires { length buf.old ≡ length self.now.bytes }
         ensures bytes { OnOk result (Gives self.now buf.new) }
         ensures one { ((receipt : R) → IsSome (R.state receipt).told)
@@ -77,7 +83,7 @@ impl<R: Receipt> Plan<R> {
     {
         buf.copy_from_slice(self.bytes.as_slice());
         for piece in &self.pieces {
-            piece.fetch(store, buf)?;
+            piece.fetch(store, cache, buf)?;
         }
         Ok(())
     }

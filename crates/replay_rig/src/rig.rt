@@ -28,6 +28,7 @@ use gc_copier::{Copied, GcPlan, copy};
 use lsvd_base::{Body, Geometry, SECTOR_BYTES};
 use lsvd_device::{Fate, StoppedDisk};
 use lsvd_objstore::{MemReceipt, MemStore, Receipt};
+use read_cache::ReadCache;
 use read_plan::Plan;
 use std::alloc::{AllocError, Global};
 use std::marker::Model;
@@ -40,6 +41,9 @@ const STEP_CALLS: u64 = 7 + 2;
 // The bytes that they write beside a record's data.
 const STEP_BYTES: u64 = 512 + 3 + 2 * SECTOR_BYTES;
 
+// How many blocks of objects a rig keeps for its reads: few, so that scripts make it let go of some.
+const CACHE_BLOCKS: usize = 4;
+
 /// A volume on a disk in memory with a fuse before it, and its store in memory, whose machine can be stopped.
 ///
 /// Each call that changes it answers one line of a script. It has answered fewer than 2^40 (a condition), and
@@ -48,6 +52,8 @@ const STEP_BYTES: u64 = 512 + 3 + 2 * SECTOR_BYTES;
 pub struct Rig {
     volume: ScriptVolume,
     store: MemStore,
+    /// Blocks of the objects that were read since the last mount.
+    cache: ReadCache<MemReceipt>,
     /// The objects under way.
     puts: Puts,
     /// What was copied by the plan of a copy that is out.
@@ -82,12 +88,14 @@ impl Rig {
         ensures shows { IfOk result (λ rig. ShowsPlain rig (created_volume geometry)) }
         ensures lines { IfOk result (λ rig. rig.lines ≡ 0) }
     {
+        let cache = ReadCache::new(alloc, CACHE_BLOCKS)?;
         let mut store = MemStore::new(alloc);
         let disk = blank_disk(alloc, LOG_START + SECTOR_BYTES * geometry.log)?;
         let volume = create_volume(alloc, disk, &mut store, geometry)?;
         Ok(Rig {
             volume,
             store,
+            cache,
             puts: Puts::new(alloc),
             copied: None,
             is_stopping: false,
@@ -136,7 +144,7 @@ impl Rig {
             Reply::Planned(plan) => plan,
             reply => return answer_of(reply),
         };
-        let outcome = fetched(alloc, &plan, &mut self.store);
+        let outcome = fetched(alloc, &plan, &mut self.store, &mut self.cache);
         drop(self.volume.step(Event::Release(plan)));
         let bytes = outcome?;
         Ok(Answer::Sectors(bytes))
@@ -386,11 +394,12 @@ impl Rig {
         ensures ok { IfOk result (λ made. MountsKeptRig fates.now letters.now made.1 self made.0) }
         ensures lines { IfOk result (λ made. made.0.lines ≤ self.lines + 1) }
     {
+        let cache = ReadCache::new(alloc, CACHE_BLOCKS)?;
         self.volume.is_volume();
         let disk = stopped_device(alloc, self.volume, fates)?;
         land(alloc, &mut self.store, self.puts.as_slice(), letters)?;
         let mounted = mount_again(alloc, disk, &mut self.store)?;
-        Ok(go_on(alloc, mounted, self.store, self.lines))
+        Ok(go_on(alloc, mounted, self.store, cache, self.lines))
     }
 
     /// The same without its cache, on a new device of the same length.
@@ -399,12 +408,13 @@ impl Rig {
         ensures ok { IfOk result (λ made. MountsLostRig letters.now made.1 self made.0) }
         ensures lines { IfOk result (λ made. made.0.lines ≤ self.lines + 1) }
     {
+        let cache = ReadCache::new(alloc, CACHE_BLOCKS)?;
         let log = self.volume.geometry().log;
         drop(self.volume);
         let disk = blank_disk(alloc, LOG_START + SECTOR_BYTES * log)?;
         land(alloc, &mut self.store, self.puts.as_slice(), letters)?;
         let mounted = mount_anew(alloc, disk, &mut self.store)?;
-        Ok(go_on(alloc, mounted, self.store, self.lines))
+        Ok(go_on(alloc, mounted, self.store, cache, self.lines))
     }
 
     /// What is so of every volume with its store, as a fact for the proofs of callers. Nothing is done.
@@ -416,18 +426,19 @@ impl Rig {
     }
 }
 
-// What a plan reads. The one error is out of memory.
+// What a plan reads, through a cache. The one error is out of memory.
 fn fetched(
     alloc: Global,
     plan: &Plan<MemReceipt>,
     store: &mut MemStore,
+    cache: &mut ReadCache<MemReceipt>,
 ) -> Result<Vec<u8>, AllocError>
     ensures gives { IfOk result (λ bytes. GivesNoOther plan.now bytes.items) }
     ensures store { store.new ≡ store.old }
 {
     let mut bytes = vec![in alloc; 0; plan.len()]?;
     // A store in memory fails no call.
-    let _ = plan.fetch(store, bytes.as_mut_slice());
+    let _ = plan.fetch(store, cache, bytes.as_mut_slice());
     Ok(bytes)
 }
 
@@ -475,8 +486,14 @@ fn make_room(volume: &mut ScriptVolume, event: &Event<MemReceipt>) -> Result<(),
     volume.with_disk(|disk| disk.reserve(STEP_CALLS, STEP_BYTES + bytes))
 }
 
-// Goes on with a volume that was mounted, and one line more.
-fn go_on(alloc: Global, mounted: MountedVolume, store: MemStore, lines: u64) -> (Rig, Answer)
+// Goes on with a volume that was mounted, a new cache, and one line more.
+fn go_on(
+    alloc: Global,
+    mounted: MountedVolume,
+    store: MemStore,
+    cache: ReadCache<MemReceipt>,
+    lines: u64,
+) -> (Rig, Answer)
     requires shows { (plain : PlainState)
         × ShowsPlain (rig_of mounted.volume store [] false (lines + 1)) plain }
     requires plan { mounted.volume.volume.plan ≡ None }
@@ -491,6 +508,7 @@ fn go_on(alloc: Global, mounted: MountedVolume, store: MemStore, lines: u64) -> 
     let rig = Rig {
         volume: mounted.volume,
         store,
+        cache,
         puts: Puts::new(alloc),
         copied: None,
         is_stopping: false,

@@ -17,12 +17,16 @@ use lsvd_device::Disk;
 use lsvd_fault::{Failed, Sink, write_all};
 use lsvd_listen::Listener;
 use lsvd_objstore::Store;
+use read_cache::ReadCache;
 use refusals::Refusal;
 use std::alloc::Global;
 use vol_core::Volume;
 use vol_recover::Mounted;
 use volume_owner::Owner;
 use volume_server::{LaneEnd, serve_volume};
+
+// How many blocks of objects a server keeps in memory: 16 MiB of them.
+const CACHE_BLOCKS: usize = 256;
 
 // Tells that a volume was mounted, serves it until the last session has ended, and drains it and tells that
 // then. The volume is given back.
@@ -49,10 +53,14 @@ pub(crate) fn serve_clients<D: Disk, S: Store, L: Listener, O: Sink>(
         → IsConstant L.faults → CountsOne (O.faults out.old) (O.faults out.new) }
     ensures no_fault { result.1 ≢ Err CommandError.Fault → O.faults out.new ≡ O.faults out.old }
 {
+    let Ok(cache) = ReadCache::new(alloc, CACHE_BLOCKS) else {
+        return (mounted.volume, Err(CommandError::OutOfMemory));
+    };
     if let Err(Failed) = tell_mounted(out, mounted.entries, mounted.number) {
+        drop(cache);
         return (mounted.volume, Err(CommandError::Fault));
     }
-    let closing = serve_volume(alloc, mounted.volume, clients, store, sessions);
+    let closing = serve_volume(alloc, mounted.volume, cache, clients, store, sessions);
     let (volume, drained) = drain(alloc, closing.volume, store);
     let entries = match drained {
         Ok(entries) => entries,

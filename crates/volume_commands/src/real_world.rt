@@ -2,6 +2,7 @@ ghost use Rattle.std.specs.Prelude.{◌≡◌, false, None};
 ghost use Rattle.lsvd_fault.specs.Faults.{CountsOne};
 
 use crate::world::{World, WorldError};
+use gathered_disk::{GatheredDisk, Untold};
 use lsvd_base::ObjectBytes;
 use lsvd_device::{Disk, FileDisk, FileError};
 use lsvd_fault::{Failed, ReadSource, WriteSink};
@@ -51,7 +52,7 @@ impl<'a, R: Read + Drop, O: Write + Drop, E: Write + Drop> World for RealWorld<'
 
     type Err = WriteSink<E>;
 
-    type Disk = RealDisk<'a>;
+    type Disk = GatheredDisk<RealDisk<'a>, Untold>;
 
     type Store = RealStore<'a>;
 
@@ -67,14 +68,21 @@ impl<'a, R: Read + Drop, O: Write + Drop, E: Write + Drop> World for RealWorld<'
 
     ghost clients_at = { λ _ _. None };
 
-    fn disk(&mut self, path: &str, len: Option<u64>) -> Result<RealDisk<'a>, WorldError> {
+    fn disk(
+        &mut self,
+        path: &str,
+        len: Option<u64>,
+    ) -> Result<GatheredDisk<RealDisk<'a>, Untold>, WorldError> {
         let place = Place::new(self.rt, path)?;
         let opened = match len {
             Some(len) => FileDisk::create(self.rt, path, len),
             None => FileDisk::open(self.rt, path),
         };
         match opened {
-            Ok(file) => Ok(RealDisk { place, file }),
+            Ok(file) => {
+                let disk = RealDisk { place, file };
+                Ok(GatheredDisk::new(self.rt.alloc(), disk, Untold)?)
+            }
             Err(FileError::OutOfMemory) => Err(WorldError::OutOfMemory),
             Err(error) => {
                 place.tell(error);
@@ -118,8 +126,9 @@ impl<'a, R: Read + Drop, O: Write + Drop, E: Write + Drop> World for RealWorld<'
         }
     }
 
-    // Its file is closed.
-    fn close_disk(&mut self, _path: &str, disk: RealDisk<'a>) {
+    // What it gathered is handed over, and its file is closed.
+    fn close_disk(&mut self, _path: &str, disk: GatheredDisk<RealDisk<'a>, Untold>) {
+        let (disk, _) = disk.into_disk();
         drop(disk);
     }
 
@@ -206,6 +215,10 @@ impl Disk for RealDisk<'_> {
     fn sync(&mut self) -> Result<(), Failed> {
         let outcome = self.file.sync();
         self.judge(outcome)
+    }
+
+    fn hand_over(&mut self) {
+        self.file.hand_over();
     }
 
     fn faults(&self) -> u64 {

@@ -15,6 +15,7 @@ use lsvd_base::{Body, Entry, Geometry};
 use lsvd_device::Disk;
 use lsvd_fault::Failed;
 use lsvd_objstore::{Receipt, Store};
+use read_cache::ReadCache;
 use std::alloc::Global;
 use std::marker::Model;
 use uuid::Uuid;
@@ -133,9 +134,9 @@ impl<D: Disk, R: Receipt> Owner<D, R> {
         drain(alloc, &mut self.volume, store)
     }
 
-    /// Reads the sectors from `lba` on into the whole of a buffer of whole sectors (a condition), and answers
-    /// how many entries the history has that the sectors are those of. Where the volume tells what it holds,
-    /// they are its sectors.
+    /// Reads the sectors from `lba` on into the whole of a buffer of whole sectors (a condition), those of
+    /// objects through a cache, and answers how many entries the history has that the sectors are those of.
+    /// Where the volume tells what it holds, they are its sectors.
     ///
     /// `Range` comes exactly where the sectors are not 1 to `max_write` that lie inside the volume. `Eio`
     /// comes where a call of the disk or of the store failed, which that counted, and `OutOfMemory` where
@@ -143,6 +144,7 @@ impl<D: Disk, R: Receipt> Owner<D, R> {
     pub fn read<S: Store<Receipt = R>>(
         &mut self,
         store: &mut S,
+        cache: &mut ReadCache<R>,
         lba: u64,
         buf: &mut [u8],
     ) -> Result<u64, OwnerError>
@@ -151,7 +153,15 @@ impl<D: Disk, R: Receipt> Owner<D, R> {
         ensures { ReadOf R.state lba (length buf.old / 512) buf.new result self.old self.new
             (S.state store.old) (S.state store.new) }
     {
-        read(&mut self.volume, store, lba, buf)
+        read(&mut self.volume, store, cache, lba, buf)
+    }
+
+    /// Lets the disk hand over what it gathered of writes, so that it outlasts the end of this program. For
+    /// the volume nothing changes.
+    pub fn hand_over(&mut self)
+        ensures { self.new ≡ self.old }
+    {
+        self.volume.with_disk(|disk| disk.hand_over());
     }
 
     /// How many steps the volume made since it was mounted.

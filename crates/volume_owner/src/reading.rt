@@ -12,14 +12,16 @@ use lsvd_base::SECTOR_BYTES;
 use lsvd_device::Disk;
 use lsvd_fault::Failed;
 use lsvd_objstore::{Receipt, Store};
+use read_cache::ReadCache;
 use vol_core::{Event, Volume};
 
 /// Reads the sectors from `lba` on into the whole of a buffer of whole sectors (a condition): plans the read,
-/// fetches it, and gives the plan back, whatever the fetch answered. Answers the length of the history at
-/// the plan.
+/// fetches it through a cache, and gives the plan back, whatever the fetch answered. Answers the length of
+/// the history at the plan.
 pub(crate) fn read<D: Disk, R: Receipt, S: Store<Receipt = R>>(
     volume: &mut Volume<D, R>,
     store: &mut S,
+    cache: &mut ReadCache<R>,
     lba: u64,
     buf: &mut [u8],
 ) -> Result<u64, OwnerError>
@@ -36,7 +38,7 @@ pub(crate) fn read<D: Disk, R: Receipt, S: Store<Receipt = R>>(
     }
     let plan = plan_of(volume.step(Event::Look { lba, sectors }))?;
     let length = plan.history_length();
-    let fetched = plan.fetch(store, buf);
+    let fetched = plan.fetch(store, cache, buf);
     drop(volume.step(Event::Release(plan)));
     fetched?;
     Ok(length)

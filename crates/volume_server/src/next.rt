@@ -41,8 +41,8 @@ pub fn serve_next<S, B: BlockDevice<S>, L: Listener>(
     NextClient::Served(link, end)
 }
 
-// Serves a client until its session ends, and sends then what its link still holds back, unless the link had
-// failed: what it was told of is not tried again.
+// Serves a client until its session ends, has the device hand over what it gathered, and sends then what the
+// link still holds back, unless the link had failed: what it was told of is not tried again.
 fn serve_client<S, B: BlockDevice<S>, K: Connection>(
     alloc: Global,
     device: &mut B,
@@ -56,6 +56,7 @@ fn serve_client<S, B: BlockDevice<S>, K: Connection>(
     ensures sent { HasSentAll (K.held link.new) (K.Source.faults link.old) (K.Source.faults link.new) }
 {
     let end = serve_session(alloc, device, link, store);
+    device.hand_over(store);
     match end {
         SessionEnd::LinkFault => {}
         _ => {

@@ -7,6 +7,7 @@ use lsvd_device::Disk;
 use lsvd_fault::Failed;
 use lsvd_objstore::{Receipt, Store};
 use nbd_session::{BlockDevice, BlockError};
+use read_cache::ReadCache;
 use std::alloc::Global;
 use uuid::Uuid;
 use vol_core::Volume;
@@ -18,17 +19,20 @@ use volume_owner::{Owner, OwnerError};
 pub struct OwnerDevice<D: Disk, R: Receipt> {
     /// The owner, who makes the requests.
     pub owner: Owner<D, R>,
+    /// Blocks of the objects that were read.
+    cache: ReadCache<R>,
 }
 
 impl<D: Disk, R: Receipt> OwnerDevice<D, R> {
-    /// That of a volume. No put of an object is under way, and no plan of a read is out (a condition), as
-    /// when it was just created or mounted.
-    pub fn new(volume: Volume<D, R>) -> OwnerDevice<D, R>
+    /// That of a volume, which reads its objects through a cache. No put of an object is under way, and no
+    /// plan of a read is out (a condition), as when it was just created or mounted.
+    pub fn new(volume: Volume<D, R>, cache: ReadCache<R>) -> OwnerDevice<D, R>
         requires { IsIdle volume.volume }
         ensures { result.owner ≡ volume }
     {
         OwnerDevice {
             owner: Owner::new(volume),
+            cache,
         }
     }
 
@@ -37,7 +41,9 @@ impl<D: Disk, R: Receipt> OwnerDevice<D, R> {
         ensures volume { result ≡ self.owner }
         ensures idle { IsIdle result.volume }
     {
-        self.owner.into_volume()
+        let OwnerDevice { owner, cache } = self;
+        drop(cache);
+        owner.into_volume()
     }
 }
 
@@ -67,7 +73,7 @@ impl<D: Disk, R: Receipt, S: Store<Receipt = R>> BlockDevice<S> for OwnerDevice<
     }
 
     fn read(&mut self, store: &mut S, lba: u64, buf: &mut [u8]) -> Result<(), BlockError> {
-        match self.owner.read(store, lba, buf) {
+        match self.owner.read(store, &mut self.cache, lba, buf) {
             Ok(_) => Ok(()),
             Err(error) => Err(told(error)),
         }
@@ -104,6 +110,10 @@ impl<D: Disk, R: Receipt, S: Store<Receipt = R>> BlockDevice<S> for OwnerDevice<
             Ok(_) => Ok(()),
             Err(failed) => Err(failed),
         }
+    }
+
+    fn hand_over(&mut self, _: &S) {
+        self.owner.hand_over();
     }
 
     ghost reads_nothing = { λ lba moment. (

@@ -9,6 +9,7 @@ use lsvd_device::Disk;
 use lsvd_listen::Listener;
 use lsvd_objstore::{Receipt, Store};
 use nbd_session::BlockDevice;
+use read_cache::ReadCache;
 use std::alloc::Global;
 use vol_core::Volume;
 
@@ -74,10 +75,12 @@ pub fn serve_lane<S, B: BlockDevice<S>, L: Listener>(
 
 /// Serves a volume to clients, one after the other, until so many were served, or the listener gives none,
 /// and gives the volume back. No put of an object is under way, and no plan of a read is out (a condition),
-/// as when it was just created or mounted; and so it is of the volume that is given back.
+/// as when it was just created or mounted; and so it is of the volume that is given back. Its objects are
+/// read through the cache, which is let go then.
 pub fn serve_volume<D: Disk, R: Receipt, S: Store<Receipt = R>, L: Listener>(
     alloc: Global,
     volume: Volume<D, R>,
+    cache: ReadCache<R>,
     listener: &mut L,
     store: &mut S,
     sessions: u64,
@@ -94,7 +97,7 @@ pub fn serve_volume<D: Disk, R: Receipt, S: Store<Receipt = R>, L: Listener>(
         (record { volume = result.volume; store = S.state store.new }) }
     ensures idle { IsIdle result.volume.volume }
 {
-    let mut device = OwnerDevice::new(volume);
+    let mut device = OwnerDevice::new(volume, cache);
     let lane = serve_lane(alloc, &mut device, listener, store, sessions);
     Closing {
         volume: device.into_volume(),

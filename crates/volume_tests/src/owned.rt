@@ -6,6 +6,7 @@ use crate::step::Byte;
 use lsvd_base::{Body, Geometry};
 use lsvd_device::MemDisk;
 use lsvd_objstore::{FaultStore, MemReceipt, MemStore, PlannedFault, Store};
+use read_cache::ReadCache;
 use std::alloc::{AllocError, Global};
 use test_output::{TestError, head};
 use volume_owner::{Owner, OwnerError};
@@ -166,10 +167,12 @@ pub fn read(
     if MOST < owner.steps() {
         return Err(TestError::Refused);
     }
+    let mut cache = ReadCache::new(alloc, 0)?;
     let mut buf = eight_sectors(alloc)?;
-    let outcome = owner.read(store, lba, buf.as_mut_slice());
+    let outcome = owner.read(store, &mut cache, lba, buf.as_mut_slice());
     let byte = filled_with(buf.as_slice());
     drop(buf);
+    drop(cache);
     outcome.map_err(error_of)?;
     Ok(Byte(byte))
 }

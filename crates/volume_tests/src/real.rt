@@ -8,6 +8,7 @@ use batcher::Full;
 use lsvd_base::{Body, Entry, Geometry};
 use lsvd_objstore::{MemReceipt, MemStore, Receipt, Store};
 use object_uploads::Job;
+use read_cache::ReadCache;
 use read_plan::Plan;
 use std::alloc::Global;
 use test_output::TestError;
@@ -21,6 +22,9 @@ pub const GEOMETRY: Geometry = Geometry {
     log: 64,
 };
 
+// How many blocks of objects are kept for reads.
+const CACHE_BLOCKS: usize = 4;
+
 // No run here makes as many steps.
 const MOST: u64 = 1_000;
 
@@ -29,6 +33,7 @@ const MOST: u64 = 1_000;
 pub struct Real {
     volume: MemVolume,
     store: MemStore,
+    cache: ReadCache<MemReceipt>,
     jobs: Vec<Job>,
     removal: Option<MemReceipt>,
     plan: Option<Plan<MemReceipt>>,
@@ -37,11 +42,13 @@ pub struct Real {
 impl Real {
     /// A new one.
     pub fn new(alloc: Global) -> Result<Real, TestError> {
+        let cache = ReadCache::new(alloc, CACHE_BLOCKS)?;
         let mut store = MemStore::new(alloc);
         let volume = created(alloc, &mut store, GEOMETRY)?;
         Ok(Real {
             volume,
             store,
+            cache,
             jobs: Vec::new(alloc),
             removal: None,
             plan: None,
@@ -62,7 +69,7 @@ impl Real {
                 write(alloc, &mut self.volume, lba, sectors, byte)
             }
             Step::Look(lba, sectors) => look(&mut self.volume, &mut self.plan, lba, sectors),
-            Step::Fetch => fetch(alloc, &self.plan, &mut self.store),
+            Step::Fetch => fetch(alloc, &self.plan, &mut self.store, &mut self.cache),
             Step::Release => release(&mut self.volume, &mut self.plan),
             Step::Read(lba, sectors) => self.read(alloc, lba, sectors),
             Step::Take => take(&mut self.volume, &mut self.jobs),
@@ -80,7 +87,7 @@ impl Real {
         if !matches!(looked, Answer::Planned(..)) {
             return Ok(looked);
         }
-        let read = fetch(alloc, &self.plan, &mut self.store)?;
+        let read = fetch(alloc, &self.plan, &mut self.store, &mut self.cache)?;
         release(&mut self.volume, &mut self.plan)?;
         Ok(read)
     }
@@ -177,12 +184,13 @@ fn fetch(
     alloc: Global,
     plan: &Option<Plan<MemReceipt>>,
     store: &mut MemStore,
+    cache: &mut ReadCache<MemReceipt>,
 ) -> Result<Answer, TestError> {
     let Some(plan) = plan else {
         return Ok(Answer::Nothing);
     };
     let mut read = vec![in alloc; 9; plan.len()]?;
-    let fetched = plan.fetch(store, read.as_mut_slice());
+    let fetched = plan.fetch(store, cache, read.as_mut_slice());
     let sectors = Sectors::of(read.as_slice());
     drop(read);
     fetched?;

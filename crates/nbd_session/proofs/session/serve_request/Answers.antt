@@ -23,8 +23,8 @@ returns-then-is_to_disconnect-clause-serves g c =
 pub returns-in_err-body-clause-serves : goal.returns-in_err-body-clause-serves
 returns-in_err-body-clause-serves g c =
     let p = err_from_is_err_and c.from_residual-in_err-body.result c.from_residual-in_err-body.ensures.1 in
-    rw (p.1, p.2) (data_broken g.B.BlockDevice.io _ _ _ _ c.in_ok-request.request c.in_err-body.field-0.0
-    c.a_message_has_one_reading.ensures.request
+    rw (p.1, p.2, c.hand_over_before.ensures) (data_broken g.B.BlockDevice.io _ _ _ _ c.in_ok-request.request
+    c.in_err-body.field-0.0 c.a_message_has_one_reading.ensures.request
     c.in_ok-request.ensures.bytes c.in_err-body.ensures.bytes
     (sym (g.met.K.Link.one_output c.read_content.new.link) ∙ c.read_content.ensures.other ∙ c.read_request.ensures.other
     ∙ g.met.K.Link.one_output c.args.link.now))
@@ -40,7 +40,8 @@ returns-in_err-told-clause-serves g c =
     c.carry_out-outcome.result
     (g.B.BlockDevice.state c.args.device.now c.args.store.now)
     (g.B.BlockDevice.state c.carry_out-outcome.new.device c.carry_out-outcome.new.store) has at
-    (sym c.is_to_disconnect.ensures ∙ c.if-is_to_disconnect.false) c.requires c.carry_out-outcome.ensures in
+    (sym c.is_to_disconnect.ensures ∙ c.if-is_to_disconnect.false) c.requires
+    (rw (sym c.hand_over_before.ensures) c.carry_out-outcome.ensures) in
     rw (p.1, p.2) (reply_broken g.B.BlockDevice.io _ _ _ (g.K.Sink.contents c.read_content.new.link) c.in_ok-request.request
     c.carry_out-outcome.result _ _ c.in_err-told.field-0.0 carried
     (sym (g.met.K.Link.one_input c.reply-told.new.link) ∙ c.reply-told.ensures.other
@@ -62,7 +63,8 @@ returns-clause-serves g c =
     c.carry_out-outcome.result
     (g.B.BlockDevice.state c.args.device.now c.args.store.now)
     (g.B.BlockDevice.state c.carry_out-outcome.new.device c.carry_out-outcome.new.store) has at
-    (sym c.is_to_disconnect.ensures ∙ c.if-is_to_disconnect.false) c.requires c.carry_out-outcome.ensures in
+    (sym c.is_to_disconnect.ensures ∙ c.if-is_to_disconnect.false) c.requires
+    (rw (sym c.hand_over_before.ensures) c.carry_out-outcome.ensures) in
     replied g.B.BlockDevice.io _ _ _ (g.K.Sink.contents c.read_content.new.link) c.in_ok-request.request
     c.carry_out-outcome.result _ _ carried
     (sym (g.met.K.Link.one_input c.reply-told.new.link) ∙ c.reply-told.ensures.other

@@ -1,7 +1,8 @@
 use Rattle.std.proofs.Common.{◌≡◌, ℕ, ◌+◌, ◌-◌, ◌≤◌, List, length, take, drop, sym, ◌∙◌, subst, arith, length-drop}
+use Rattle.std.specs.Prelude.{max}
 use Rattle.std.proofs.lemmas.List.{length-take-le}
-use Rattle.lsvd_objstore.specs.Store.{Get, IsAskedOnce}
-use Rattle.read_plan.specs.Plan.{PieceState, PieceFits, piece_get}
+use Rattle.read_cache.specs.Reading.{AddsGets}
+use Rattle.read_plan.specs.Plan.{PieceState, PieceFits, AsksFor}
 use Rattle.read_plan.proofs.piece.Piece.fetch.Goals as goal
 
 pub returns-clause-asked : goal.returns-clause-asked
@@ -15,8 +16,7 @@ returns-clause-asked g c =
     let whole : at + count - at ≡ count = omega arith in
     let part : length (take (at + count - at) (drop at under)) ≡ count =
     length-take-le (at + count - at) (drop at under) (omega (arith, long, inside)) ∙ whole in
-    subst (λ (p : PieceState). IsAskedOnce (piece_get p) (g.S.Store.gets c.args.store.now) (g.S.Store.gets c.get.new.self))
+    subst (λ (p : PieceState). AsksFor p (g.S.Store.gets c.args.store.now) (g.S.Store.gets c.read_through.new.store))
     c.self.view_is
-    (subst (λ n.
-    IsAskedOnce (Get (g.R.Receipt.state c.self.inside.receipt).name c.self.inside.from n) (g.S.Store.gets c.args.store.now)
-    (g.S.Store.gets c.get.new.self)) part c.get.ensures.asked)
+    (subst (λ n. AddsGets (g.R.Receipt.state c.self.inside.receipt) (max 65536 n) 2 (g.S.Store.gets c.args.store.now)
+    (g.S.Store.gets c.read_through.new.store)) part c.read_through.ensures.asked)

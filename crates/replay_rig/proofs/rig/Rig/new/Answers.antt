@@ -12,7 +12,7 @@ invariant_of-result c = (
     created_volume c.args.geometry,
     subst (λ ps. ShowsPlain (rig_of c.in_ok-volume.volume c.create_volume.new.store ps false 0)
         (created_volume c.args.geometry))
-        (sym c.new.ensures)
+        (sym c.new-2.ensures)
         (new_rig c.args.geometry c.in_ok-volume.volume c.create_volume.new.store c.in_ok-volume.ensures),
   ),
   none_held c.in_ok-volume.volume.volume.plan
@@ -22,5 +22,5 @@ invariant_of-result c = (
 pub returns-clause-shows : goal.returns-clause-shows
 returns-clause-shows c =
     subst (λ ps. ShowsPlain (rig_of c.in_ok-volume.volume c.create_volume.new.store ps false 0) (created_volume c.args.geometry))
-    (sym c.new.ensures)
+    (sym c.new-2.ensures)
     (new_rig c.args.geometry c.in_ok-volume.volume c.create_volume.new.store c.in_ok-volume.ensures)
