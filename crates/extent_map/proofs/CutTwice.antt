@@ -162,6 +162,33 @@ module _ {P : Type 0} (end : ℕ) where
       let some = some_first (drop n rows) found answer says (is ∙ sym (get_drop n rows)) said_yes in
       omega (arith, more, some, count, ap (λ k. before_count end (drop k rows)) count)
 
+  -- where some rows begin before it, the first one is one of them
+  first_counts : (row : Extent P) (rows : List (Extent P)) → 0 < before_count end (row ∷ rows)
+      → before_count end (row ∷ rows) ≡ 1 + before_count end rows
+  first_counts row rows some =
+      elim (cases_lt row.lba end) [
+        | inl early ↦ count_early end row rows early
+        | inr late ↦ absurd (omega (arith, some, count_late end row rows late))
+      ]
+
+  pub count_inside : (rows : List (Extent P)) → before_count end rows ≤ length rows
+  count_inside [] = omega arith
+  count_inside (row ∷ rows) =
+      elim (cases_lt row.lba end) [
+        | inl early ↦ omega (arith, count_early end row rows early, count_inside rows)
+        | inr late ↦ omega (arith, count_late end row rows late)
+      ]
+
+  -- the rows that begin before it end behind one of them where the next one is none
+  pub count_stops : (n : ℕ) (rows : List (Extent P)) (found : Option (Extent P)) (answer : Bool) → n < before_count end rows
+      → SaysBegins end found answer → found ≡ slice_get rows (suc n) → answer ≡ false → before_count end rows ≡ suc n
+  count_stops n [] found answer early says is said_no = absurd (omega (arith, early))
+  count_stops zero (row ∷ rows) found answer early says is said_no =
+      omega (arith, first_counts row rows early, none_first rows found answer says is said_no)
+  count_stops (suc n) (row ∷ rows) found answer early says is said_no =
+      let counts = first_counts row rows (omega (arith, early)) in
+      omega (arith, counts, count_stops n rows found answer (omega (arith, early, counts)) says is said_no)
+
 module _ {P : Type 0} (on : ℕ → P → P) where
   -- each row that begins before a sector leaves a part before it
   pub before_length : (at : ℕ) (rows : List (Extent P)) → IsShortest on rows → length (rows_before at rows) ≡ before_count at rows

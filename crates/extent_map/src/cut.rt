@@ -28,8 +28,8 @@ pub(crate) fn first_from<P: Place, L: Ledger>(
 }
 
 // Takes what rows are between two sectors out, and answers the place where they stood. There is room for a
-// row. Rows are replaced up to one insert or one removal, so that places stay good until then. It takes two
-// searches, and an insert or a removal of rows that begin between both.
+// row. Rows are replaced up to one insert or one removal, so that places stay good until then. It takes a
+// search, one more where several rows begin between both, and an insert or a removal of these.
 pub(crate) fn take_out<P: Place, L: Ledger>(
     rows: &mut PageList<Extent<P>>,
     lba: u64,
@@ -49,10 +49,33 @@ pub(crate) fn take_out<P: Place, L: Ledger>(
     if !begins_before(rows.get(first), end) {
         return cut_one(rows, first, lba, end, steps);
     }
-    let last = first_from(rows, end, steps);
+    let last = first_after(rows, first, end, steps);
     let last = cut_front(rows, last, end);
     cut_back(rows, first, lba);
     rows.remove(first, last, steps)
+}
+
+// The place of the first row that begins from a sector on, where the row at a place begins before it. Mostly
+// it is the next place, which takes no search.
+fn first_after<P: Place, L: Ledger>(
+    rows: &PageList<Extent<P>>,
+    early: Cursor,
+    at: u64,
+    steps: &mut Steps<L>,
+) -> Cursor
+    requires place { IsIn rows.now.lengths early }
+    requires early { cursor_index rows.now.lengths early < before_count at rows.now.items }
+    requires shortest { IsShortest P.on rows.now.items }
+    ensures place { IsIn rows.now.lengths result }
+    ensures index { cursor_index rows.now.lengths result ≡ before_count at rows.now.items }
+    ensures bound { steps.new ≤ steps.old + 57 }
+    ensures rises { steps.old ≤ steps.new }
+{
+    let next = rows.next(early);
+    if begins_before(rows.get(next), at) {
+        return first_from(rows, at, steps);
+    }
+    next
 }
 
 // Whether there is a row, which begins before a sector.

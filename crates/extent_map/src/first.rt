@@ -9,8 +9,8 @@ use crate::place::Place;
 use page_list::{PageList, Steps};
 use std::sync::ledger::{Blank, Ledger};
 
-// The first of the rows between two sectors, cut at both. The steps are counted in a ledger that nothing
-// reads.
+// The first of the rows between two sectors, cut at both. No search is made where there are none between
+// them. The steps are counted in a ledger that nothing reads.
 pub(crate) fn first_between<P: Place, L: Ledger>(
     rows: &PageList<Extent<P>>,
     lba: u64,
@@ -24,6 +24,9 @@ pub(crate) fn first_between<P: Place, L: Ledger>(
     requires fits { AllFit P.number rows.now.items }
     ensures { result ≡ slice_get (rows_before end (rows_from P.on lba rows.now.items)) 0 }
 {
+    if end <= lba {
+        return None;
+    }
     let mut steps: Steps<L> = Steps::new(blank);
     let row = first_past(rows, lba, &mut steps)?;
     before(row, end)

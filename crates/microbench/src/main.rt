@@ -17,6 +17,7 @@ mod error;
 mod figures;
 mod history;
 mod maps;
+mod new_volume;
 mod numbers;
 mod overwritten;
 mod receipt;

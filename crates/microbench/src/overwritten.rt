@@ -1,20 +1,16 @@
-ghost use Rattle.std.specs.Prelude.{◌≤◌, IfOk, OnOk};
-ghost use Rattle.volume_owner.specs.Owner.{IsIdle, max_steps};
+ghost use Rattle.std.specs.Prelude.{◌≤◌, OnOk};
+ghost use Rattle.volume_owner.specs.Owner.{max_steps};
 
 use crate::clock::Start;
 use crate::disk::PlainBytes;
 use crate::error::BenchError;
 use crate::figures::Figures;
+use crate::new_volume::new_volume;
 use crate::numbers::Numbers;
 use crate::receipt::PlainReceipt;
 use crate::store::CountingStore;
-use commit_slot::LOG_START;
-use lsvd_base::{Body, Geometry, SECTOR_BYTES};
-use lsvd_names::ObjName;
-use std::alloc::Global;
-use uuid::Uuid;
-use vol_core::{Volume, create, new_list};
-use volume_owner::{Owner, a_new_volume_is_idle};
+use lsvd_base::{Body, Geometry};
+use volume_owner::Owner;
 
 /// The sectors of each write.
 pub const SECTORS: u64 = 8;
@@ -24,8 +20,6 @@ const NUMBERS: u64 = 64;
 
 // No run makes as many steps.
 const MOST_STEPS: u64 = 1 << 59;
-
-const UUID: [u8; 16] = [1; 16];
 
 /// Whether a turn of a collection is made after each object.
 #[derive(Clone, Copy, PartialEq, Eq)]
@@ -162,30 +156,5 @@ impl Overwritten {
             return Err(BenchError::Refused);
         }
         Ok(())
-    }
-}
-
-// A volume without entries, on a disk in memory. No store has its first object, which is a checkpoint without
-// rows, so that no one looks for it.
-fn new_volume(
-    alloc: Global,
-    geometry: Geometry,
-) -> Result<Volume<PlainBytes, PlainReceipt>, BenchError>
-    ensures { IfOk result (λ stepped. IsIdle stepped.volume) }
-{
-    if !geometry.is_within_limits() {
-        return Err(BenchError::Refused);
-    }
-    let disk = PlainBytes::new(alloc, LOG_START + SECTOR_BYTES * geometry.log)?;
-    let uuid = Uuid::from_bytes(UUID);
-    let first = PlainReceipt::new(ObjName::object(uuid, 1), 0);
-    let objects = new_list(alloc, uuid, geometry, first)?;
-    a_new_volume_is_idle();
-    match create(alloc, disk, objects) {
-        Ok(volume) => Ok(volume),
-        Err((disk, failed)) => {
-            drop(disk);
-            Err(failed.into())
-        }
     }
 }

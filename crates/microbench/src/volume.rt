@@ -3,25 +3,20 @@ ghost use Rattle.microbench.specs.Receipts.{untold_receipt};
 
 use crate::disk::PlainBytes;
 use crate::error::BenchError;
+use crate::new_volume::new_volume;
 use crate::numbers::Numbers;
 use crate::receipt::PlainReceipt;
-use commit_slot::LOG_START;
-use lsvd_base::{Body, Geometry, SECTOR_BYTES};
-use lsvd_names::ObjName;
+use lsvd_base::{Body, Geometry};
 use lsvd_objstore::Receipt;
 use object_uploads::Job;
 use std::alloc::Global;
-use uuid::Uuid;
-use vol_core::{Event, Reply, Volume, create, new_list};
+use vol_core::{Event, Reply, Volume};
 
 /// The sectors of each write.
 pub const SECTORS: u64 = 8;
 
 // No number of steps here comes near its limit.
 const MOST: u64 = 1 << 40;
-
-// The uuid of the volume.
-const UUID: [u8; 16] = [1; 16];
 
 /// A volume on a disk in memory, and what was asked of it.
 #[derive(Drop)]
@@ -36,16 +31,8 @@ pub struct TimedVolume {
 impl TimedVolume {
     /// One without entries. No store has its first object, which has no sectors, so that no look finds it.
     pub fn new(alloc: Global, geometry: Geometry) -> Result<TimedVolume, BenchError> {
-        if !geometry.is_within_limits() {
-            return Err(BenchError::Refused);
-        }
-        let disk = PlainBytes::new(alloc, LOG_START + SECTOR_BYTES * geometry.log)?;
-        let uuid = Uuid::from_bytes(UUID);
-        let first = PlainReceipt::new(ObjName::object(uuid, 1), 0);
-        let objects = new_list(alloc, uuid, geometry, first)?;
-        let volume = create(alloc, disk, objects).map_err(|(_, failed)| failed)?;
         Ok(TimedVolume {
-            volume,
+            volume: new_volume(alloc, geometry)?,
             numbers: Numbers::new(0),
             writes: 0,
             batched: 0,

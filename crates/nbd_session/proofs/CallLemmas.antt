@@ -162,19 +162,16 @@ some_sectors (suc n) some = omega arith
 -- ---- a read
 
 -- a buffer of the sectors that may be read is one that may
-pub read_fits : (geometry : Geometry) (lba sectors size : ℕ) → (sectors ≡ 0 → ⊥)
-    → (sectors ≤ geometry.max_write) × IsTrue (covers geometry lba sectors) → size ≡ sectors * 512
-    → may_transfer geometry lba (size / 512) ≡ true
-read_fits geometry lba sectors size some fits is =
-    let count : sectors ≡ size / 512 = omega (arith, is) in
-    subst (λ n. may_transfer geometry lba n ≡ true) count
-    (may_be_transferred geometry lba sectors (some_sectors sectors some) fits.0 fits.1)
+pub read_fits : (geometry : Geometry) (lba sectors : ℕ) → (sectors ≡ 0 → ⊥)
+    → (sectors ≤ geometry.max_write) × IsTrue (covers geometry lba sectors) → may_transfer geometry lba sectors ≡ true
+read_fits geometry lba sectors some fits =
+    may_be_transferred geometry lba sectors (some_sectors sectors some) fits.0 fits.1
 
 -- of no sectors no bytes are read
 pub nothing_read : {M : Type 0} (io : BlockRelations M) → ReadsNothing io → (lba sectors : ℕ) (content : List ℕ) (moment : M)
-    → sectors ≡ 0 → length content ≡ sectors * 512 → ReadsSectors io lba sectors (Ok content) moment moment
-nothing_read io nothing lba sectors [] moment none size = (omega (arith, none), nothing lba moment)
-nothing_read io nothing lba sectors (byte ∷ rest) moment none size = absurd (omega (arith, none, size))
+    → sectors ≡ 0 → content ≡ [] → ReadsSectors io lba sectors (Ok content) moment moment
+nothing_read io nothing lba sectors content moment none empty =
+    rw empty (omega (arith, none), nothing lba moment)
 
 -- they were not read
 pub not_read : {M : Type 0} (io : BlockRelations M) (lba sectors : ℕ) (error : BlockError) (old new : M)

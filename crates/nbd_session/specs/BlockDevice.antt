@@ -1,6 +1,6 @@
 -- Contract: the block device that a session serves: what is known of it at a moment, and what each of its calls does between two.
 -- Others may make requests of the same volume between these calls, and inside one.
-use Rattle.std.specs.Prelude.{ℕ, ◌^◌, ◌<◌, ◌≤◌, Bool, true, false, List, [], ◌∷◌, Result, Ok, Err}
+use Rattle.std.specs.Prelude.{◌≡◌, ℕ, ◌^◌, ◌*◌, ◌<◌, ◌≤◌, Bool, true, false, List, [], ◌∷◌, length, Result, Ok, Err}
 use Rattle.lsvd_base.specs.declared.entry.Entry.{Entry}
 use Rattle.lsvd_base.specs.declared.geometry.Geometry.{Geometry}
 use Rattle.nbd_session.specs.declared.block_error.BlockError.{BlockError}
@@ -55,11 +55,10 @@ added_by entry (Err error) = []
 abbrev pub Enters : {M : Type 0} → BlockRelations M → Entry → Result (Unit {0}) BlockError → M → M → Type 0
 Enters io entry result old new = io.enters (added_by entry result) (is_io result) old new
 
--- the bytes were read, or were not, and nothing was entered
-abbrev pub Reads : {M : Type 0} → BlockRelations M → (lba : ℕ) → (bytes : List ℕ) → Result (Unit {0}) BlockError → M → M
-    → Type 0
-Reads io lba bytes (Ok done) old new = io.reads lba bytes old new
-Reads io lba bytes (Err error) old new = io.enters [] (is_io (Err error)) old new
+-- so many sectors from one on were read, which have these bytes, or were not, and nothing was entered
+abbrev pub Reads : {M : Type 0} → BlockRelations M → (lba sectors : ℕ) → Result (List ℕ) BlockError → M → M → Type 0
+Reads io lba sectors (Ok bytes) old new = (length bytes ≡ 512 * sectors) × io.reads lba bytes old new
+Reads io lba sectors (Err error) old new = io.enters [] (is_io (Err error)) old new
 
 -- all entries so far were to be made durable, which has failed or not
 abbrev pub Flushes : {M : Type 0} → BlockRelations M → (failed : Bool) → M → M → Type 0

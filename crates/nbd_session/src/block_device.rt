@@ -1,4 +1,4 @@
-ghost use Rattle.std.specs.Prelude.{◌≡◌, ◌/◌, ◌%◌, IsTrue, length, is_err};
+ghost use Rattle.std.specs.Prelude.{◌≡◌, IsTrue, is_err};
 ghost use Rattle.lsvd_base.specs.declared.entry.Entry.TheVariants as entries;
 ghost use Rattle.lsvd_base.specs.Limits.{is_within_limits, may_transfer};
 ghost use Rattle.lsvd_base.specs.Range.{is_in_range};
@@ -41,14 +41,18 @@ pub trait BlockDevice<S> {
     fn steps(&self, store: &S) -> u64
         ensures { result ≡ steps_at io (state self.now store.now) };
 
-    /// Reads the sectors from `lba` on into the whole of a buffer of whole sectors. They are 1 to `max_write`
-    /// that lie inside the volume (a condition). After an error any bytes stand in the buffer.
-    fn read(&mut self, store: &mut S, lba: u64, buf: &mut [u8]) -> Result<(), BlockError>
+    /// Reads `sectors` sectors from `lba` on. They are 1 to `max_write` that lie inside the volume (a
+    /// condition).
+    fn read(
+        &mut self,
+        alloc: Global,
+        store: &mut S,
+        lba: u64,
+        sectors: u64,
+    ) -> Result<Body, BlockError>
         requires room { HasRoom io (state self.old store.old) }
-        requires whole { length buf.old % 512 ≡ 0 }
-        requires fits { IsTrue (may_transfer (geometry_at io (state self.old store.old)) lba
-            (length buf.old / 512)) }
-        ensures { Reads io lba buf.new result (state self.old store.old) (state self.new store.new) };
+        requires fits { IsTrue (may_transfer (geometry_at io (state self.old store.old)) lba sectors) }
+        ensures { Reads io lba sectors result (state self.old store.old) (state self.new store.new) };
 
     /// Writes the data at the sectors from `lba` on. They are 1 to `max_write` that lie inside the volume (a
     /// condition). After an error nothing was entered. It leaves room for a flush.

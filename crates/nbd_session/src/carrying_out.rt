@@ -8,9 +8,8 @@ ghost use Rattle.nbd_session.specs.BlockDevice.{HasRoom, MayFlush, geometry_at};
 
 use crate::asking::Asked;
 use crate::block_device::BlockDevice;
-use crate::content::zeros;
 use crate::outcome::ReplyError;
-use lsvd_base::{Body, SECTOR_BYTES};
+use lsvd_base::Body;
 use std::alloc::Global;
 
 /// Does what was asked, which the volume takes (a condition). The data of a write come with it, unless there
@@ -70,12 +69,11 @@ fn read<S, B: BlockDevice<S>>(
     ensures { ReadsSectors B.io lba sectors result
         (B.state device.old store.old) (B.state device.new store.new) }
 {
-    let mut bytes = zeros(alloc, (sectors * SECTOR_BYTES) as usize)?;
     if sectors == 0 {
-        return Ok(Body::from_bytes(bytes));
+        return Ok(Body::from_bytes(Vec::new(alloc)));
     }
-    device.read(store, lba, bytes.as_mut_slice())?;
-    Ok(Body::from_bytes(bytes))
+    let body = device.read(alloc, store, lba, sectors)?;
+    Ok(body)
 }
 
 // Writes the data, if there are any, and flushes then, where they are to be durable.

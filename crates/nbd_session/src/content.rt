@@ -61,8 +61,8 @@ fn drop_body<K: Source>(link: &mut K, size: u32) -> Result<Option<Body>, WireEnd
     Ok(None)
 }
 
-/// So many zeros.
-pub(crate) fn zeros(alloc: Global, count: usize) -> Result<Vec<u8>, AllocError>
+// So many zeros.
+fn zeros(alloc: Global, count: usize) -> Result<Vec<u8>, AllocError>
     ensures { IfOk result (λ bytes. vec_len bytes ≡ count) }
 {
     vec![in alloc; 0u8; count]

@@ -6,8 +6,9 @@
 //! Whatever lands of those past the frontier, their replay up to the first that is missing gives the owners
 //! of the stream up to there. A plan of a copy has the live sectors of the victims, and the objects that it
 //! takes them from, which are not removed before it ends. It stands on `upload_window` for the order of
-//! uploads, on `volume_maps` for the maps, on `gc_copier` for plans, on `lsvd_objstore` for receipts, and on
-//! `object_stream` for what the stream is. It knows no device and no store.
+//! uploads, on `volume_maps` for the maps, on `gc_copier` for plans, on `lsvd_objstore` for receipts and for
+//! the store that a job is put into, and on `object_stream` for what the stream is. It knows no device, and
+//! keeps no store.
 #![tactic(auto)]
 
 mod checkpoint;

@@ -20,18 +20,16 @@ ghost use Rattle.plain_disk.specs.Checkpoints.{sealed_checkpoint};
 ghost use Rattle.plain_disk.specs.Removals.{copies_from, is_removable, to_remove, take_remove_reply};
 ghost use Rattle.plain_disk.specs.Removals.{after_take_remove, remove_done_reply, after_remove_done};
 ghost use Rattle.plain_disk.specs.Removals.{remove_failed_reply, after_remove_failed, absent_of};
-ghost use Rattle.plain_disk.specs.Collection.{planned_copy, plan_copy_reply, after_plan_copy};
-ghost use Rattle.plain_disk.specs.Collection.{seal_copy_reply, after_seal_copy, drop_plan_reply};
-ghost use Rattle.plain_disk.specs.Collection.{after_drop_plan};
 ghost use Rattle.plain_disk.specs.declared.event.PlainReply.TheVariants.{NoRoom, Sealed};
 ghost use Rattle.plain_disk.specs.Log.{room_in};
 ghost use Rattle.plain_disk.specs.Step.{plain_reply, plain_after};
 ghost use Rattle.plain_disk.specs.Stops.{stopping_after_calls, recovered_number, recovered_end, kept_count};
 ghost use Rattle.plain_disk.specs.Stops.{found_with, mounted_kept, mounted_lost};
 
+mod collecting;
+
 use crate::cache::CacheDevice;
-use crate::checkpoints::{Checkpoint, last_checkpoint, last_landed, owned_in};
-use crate::collection::{payloads, planned_copy};
+use crate::checkpoints::{Checkpoint, last_checkpoint, last_landed};
 use crate::history::{MAX_ENTRIES, count_data_sectors, read_history};
 use crate::landed::landed_after;
 use crate::pins::without_pins;
@@ -42,7 +40,7 @@ use crate::sealing::sealed_count;
 use crate::writers::{last_writers, run_count};
 use log_room::record_sectors;
 use lsvd_base::{Entry, Geometry, in_range};
-use object_stream::{Content, CopiedSector, CopiedSectors, PlainStream, StreamObject};
+use object_stream::{Content, CopiedSectors, PlainStream, StreamObject};
 use plain_disk::{ObjectNumbers, PendingWrite, PlainEvent, PlainReply, PlannedRead};
 use std::alloc::{AllocError, Global};
 use std::marker::Model;
@@ -582,79 +580,6 @@ impl PlainVolume {
         }
         self.removal = None;
         PlainReply::GivenBack
-    }
-
-    // Plans a copy, where no plan is out and there is a victim. The one error is that memory ran out, after
-    // which the volume is as before.
-    fn plan_copy(&mut self) -> Result<PlainReply, AllocError>
-        ensures reply { IfOk result (λ reply. reply ≡ plan_copy_reply self.old) }
-        ensures volume { OnOk result (self.new ≡ after_plan_copy self.old) }
-        ensures err { OnErr result (self.new ≡ self.old) }
-    {
-        if self.plan.is_some() {
-            return Ok(PlainReply::Busy);
-        }
-        let sectors = self.planned_copy()?;
-        if sectors.is_empty() {
-            return Ok(PlainReply::Nothing);
-        }
-        let plan = Vec::from_slice(*self.pins.allocator(), sectors.as_slice())?;
-        self.plan = Some(CopiedSectors::new(plan));
-        Ok(PlainReply::Copying(CopiedSectors::new(sectors)))
-    }
-
-    // What a plan of a copy takes. It costs as much as the volume's sectors times its objects and entries.
-    // The one error is that memory ran out.
-    fn planned_copy(&self) -> Result<Vec<CopiedSector>, AllocError>
-        ensures { IfOk result (λ sectors. sectors.items ≡ planned_copy self.now) }
-    {
-        let volume = self;
-        let alloc = *volume.pins.allocator();
-        let frontier = volume.frontier();
-        let owned = owned_in(alloc, &volume.stream, frontier, volume.geometry.sectors)?;
-        let payloads = payloads(alloc, &volume.stream, volume.geometry.sectors)?;
-        planned_copy(
-            alloc,
-            owned.as_slice(),
-            payloads.as_slice(),
-            frontier,
-            volume.geometry.batch,
-        )
-    }
-
-    // Seals what was copied, where it is that of the plan that is out and fewer than 16 objects are open. The
-    // one error is that memory ran out, after which the volume is as before.
-    fn seal_copy(&mut self, is_planned: bool) -> Result<PlainReply, AllocError>
-        ensures reply { IfOk result (λ reply. reply ≡ seal_copy_reply self.old is_planned) }
-        ensures volume { OnOk result (self.new ≡ after_seal_copy is_planned self.old) }
-        ensures err { OnErr result (self.new ≡ self.old) }
-    {
-        match &self.plan {
-            Some(plan) if is_planned => {
-                if self.uploads.len() == MAX_OPEN {
-                    return Ok(PlainReply::Busy);
-                }
-                let sectors = Vec::from_slice(*self.pins.allocator(), plan.as_slice())?;
-                let end = self.end_at(self.last_number());
-                let content = Content::Copy(CopiedSectors::new(sectors));
-                let reply = self.seal_object(StreamObject { content, end }, false)?;
-                self.plan = None;
-                Ok(reply)
-            }
-            _ => Ok(PlainReply::Nothing),
-        }
-    }
-
-    // Gives the plan of a copy up that is out.
-    fn drop_plan(&mut self) -> PlainReply
-        ensures reply { result ≡ drop_plan_reply self.old }
-        ensures volume { self.new ≡ after_drop_plan self.old }
-    {
-        if self.plan.is_none() {
-            return PlainReply::Nothing;
-        }
-        self.plan = None;
-        PlainReply::Dropped
     }
 
     // The counts.

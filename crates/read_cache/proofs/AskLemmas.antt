@@ -4,12 +4,12 @@ use Rattle.std.proofs.Common.{append_assoc, arith}
 use Rattle.std.proofs.lemmas.List.{length-append}
 use Rattle.std.proofs.lemmas.List.Elements.{All-nil, All-cons, All-append, All-weaker}
 use Rattle.lsvd_objstore.specs.Store.{ReceiptState, StoreCall, Get, IsAskedOnce}
-use Rattle.read_cache.specs.Reading.{IsGetOf, AddsGets}
+use Rattle.read_cache.specs.Reading.{IsGetOf, AsksGetsOf}
 
 module _ (receipt : ReceiptState) where
   -- a get of some of its bytes
   pub adds_one : (most from count : ℕ) (old new : Option (List StoreCall)) → from + count ≤ receipt.size → count ≤ most
-      → IsAskedOnce (Get receipt.name from count) old new → AddsGets receipt most 1 old new
+      → IsAskedOnce (Get receipt.name from count) old new → AsksGetsOf receipt most 1 old new
   adds_one most from count None new inside bounded once = once
   adds_one most from count (Some asked) new inside bounded once =
       let get : IsGetOf receipt most (Get receipt.name from count) =
@@ -20,11 +20,11 @@ module _ (receipt : ReceiptState) where
         All-cons (IsGetOf receipt most) (Get receipt.name from count) [] get (All-nil (IsGetOf receipt most)),
       )
 
-  pub adds_both : (most m n : ℕ) (a b c : Option (List StoreCall)) → AddsGets receipt most m a b → AddsGets receipt most n b c
-      → AddsGets receipt most (m + n) a c
-  adds_both most m n None b c first second = subst (λ gets. AddsGets receipt most n gets c) first second
+  pub adds_both : (most m n : ℕ) (a b c : Option (List StoreCall)) → AsksGetsOf receipt most m a b → AsksGetsOf receipt most n b c
+      → AsksGetsOf receipt most (m + n) a c
+  adds_both most m n None b c first second = subst (λ gets. AsksGetsOf receipt most n gets c) first second
   adds_both most m n (Some asked) b c (more, is, few, all) second =
-      let later = subst (λ gets. AddsGets receipt most n gets c) is second in
+      let later = subst (λ gets. AsksGetsOf receipt most n gets c) is second in
       let fewer = later.2 in (
         later.0 ++ more,
         later.1 ∙ ap Some (sym (append_assoc later.0 more asked)),
@@ -43,7 +43,7 @@ module _ (receipt : ReceiptState) where
 
   -- no more gets and no more bytes than some are no more than greater numbers
   pub adds_fewer : (most greater m n : ℕ) (old new : Option (List StoreCall)) → most ≤ greater → m ≤ n
-      → AddsGets receipt most m old new → AddsGets receipt greater n old new
+      → AsksGetsOf receipt most m old new → AsksGetsOf receipt greater n old new
   adds_fewer most greater m n None new longest le adds = adds
   adds_fewer most greater m n (Some asked) new longest le (more, is, few, all) = (
     more,

@@ -12,7 +12,7 @@ pub record IsGetOf (receipt : ReceiptState) (most : ℕ) (call : StoreCall) : Ty
   pub bounded : count ≤ most
 
 -- where a store tells its gets, only such gets were added to them, and no more than so many
-abbrev pub AddsGets : ReceiptState → (bytes calls : ℕ) → (old new : Option (List StoreCall)) → Type 0
-AddsGets receipt bytes calls None new = new ≡ None
-AddsGets receipt bytes calls (Some asked) new =
+abbrev pub AsksGetsOf : ReceiptState → (bytes calls : ℕ) → (old new : Option (List StoreCall)) → Type 0
+AsksGetsOf receipt bytes calls None new = new ≡ None
+AsksGetsOf receipt bytes calls (Some asked) new =
     (more : List StoreCall) × (new ≡ Some (more ++ asked)) × (length more ≤ calls) × All (IsGetOf receipt bytes) more

@@ -3,7 +3,7 @@ ghost use Rattle.std.specs.Prelude.{IfSome, OnOk, is_err};
 ghost use Rattle.lsvd_fault.specs.Faults.{Counts};
 ghost use Rattle.lsvd_objstore.specs.Store.{OnlyCounts};
 ghost use Rattle.read_cache.specs.Block.{BlockState, IsBlockOf, IsFilled};
-ghost use Rattle.read_cache.specs.Reading.{AddsGets};
+ghost use Rattle.read_cache.specs.Reading.{AsksGetsOf};
 
 use lsvd_fault::Failed;
 use lsvd_objstore::{Receipt, Store};
@@ -46,7 +46,7 @@ impl<R: Receipt> Block<R> {
         requires start { start ≤ (R.state receipt).size }
         requires memory { vec_len memory ≡ 65536 }
         ensures block { IfOk result (λ block. IsBlockOf (R.state receipt) start block) }
-        ensures asked { AddsGets (R.state receipt) 65536 1 (S.gets store.old) (S.gets store.new) }
+        ensures asked { AsksGetsOf (R.state receipt) 65536 1 (S.gets store.old) (S.gets store.new) }
         ensures unchanged { OnlyCounts (S.state store.old) (S.state store.new) }
         ensures count { Counts (is_err result) (S.state store.old).faults (S.state store.new).faults }
     {
@@ -106,7 +106,7 @@ fn fill<R: Receipt, S: Store<Receipt = R>>(
     requires start { start ≤ (R.state receipt.now).size }
     requires block { length bytes.old ≡ 65536 }
     ensures filled { OnOk result (IsFilled (R.state receipt.now) start bytes.new) }
-    ensures asked { AddsGets (R.state receipt.now) 65536 1 (S.gets store.old) (S.gets store.new) }
+    ensures asked { AsksGetsOf (R.state receipt.now) 65536 1 (S.gets store.old) (S.gets store.new) }
     ensures unchanged { OnlyCounts (S.state store.old) (S.state store.new) }
     ensures count { Counts (is_err result) (S.state store.old).faults (S.state store.new).faults }
 {

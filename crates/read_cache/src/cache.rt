@@ -2,7 +2,7 @@ ghost use Rattle.std.specs.Prelude.{◌≡◌, ◌+◌, ◌-◌, ◌%◌, ◌≤
 ghost use Rattle.std.specs.Prelude.{IsTrue, IfOk, IfSome, OnOk, is_err};
 ghost use Rattle.lsvd_fault.specs.Faults.{Counts};
 ghost use Rattle.lsvd_objstore.specs.Store.{OnlyCounts};
-ghost use Rattle.read_cache.specs.Reading.{AddsGets};
+ghost use Rattle.read_cache.specs.Reading.{AsksGetsOf};
 
 use crate::block::{BLOCK_BYTES, Block};
 use lru::LruCache;
@@ -88,7 +88,7 @@ impl<R: Receipt> ReadCache<R> {
         requires { from + length buf.old ≤ (R.state receipt.now).size }
         ensures bytes { OnOk result (IfSome (R.state receipt.now).told
             (λ told. buf.new ≡ take (length buf.old) (drop from told))) }
-        ensures asked { AddsGets (R.state receipt.now) (max 65536 (length buf.old)) 2 (S.gets store.old)
+        ensures asked { AsksGetsOf (R.state receipt.now) (max 65536 (length buf.old)) 2 (S.gets store.old)
             (S.gets store.new) }
         ensures unchanged { OnlyCounts (S.state store.old) (S.state store.new) }
         ensures count { Counts (is_err result) (S.state store.old).faults (S.state store.new).faults }
@@ -127,7 +127,7 @@ impl<R: Receipt> ReadCache<R> {
         requires blocks { length buf.old ≤ 65536 }
         ensures bytes { OnOk result (IfSome (R.state receipt.now).told
             (λ told. buf.new ≡ take (length buf.old) (drop from told))) }
-        ensures asked { AddsGets (R.state receipt.now) 65536 2 (S.gets store.old) (S.gets store.new) }
+        ensures asked { AsksGetsOf (R.state receipt.now) 65536 2 (S.gets store.old) (S.gets store.new) }
         ensures unchanged { OnlyCounts (S.state store.old) (S.state store.new) }
         ensures count { Counts (is_err result) (S.state store.old).faults (S.state store.new).faults }
     {
@@ -161,7 +161,7 @@ impl<R: Receipt> ReadCache<R> {
         requires back { length back.old ≤ 65536 }
         ensures bytes { OnOk result (IfSome (R.state receipt.now).told (λ told. front.new ++ back.new
             ≡ take (length front.old + length back.old) (drop from told))) }
-        ensures asked { AddsGets (R.state receipt.now) 65536 2 (S.gets store.old) (S.gets store.new) }
+        ensures asked { AsksGetsOf (R.state receipt.now) 65536 2 (S.gets store.old) (S.gets store.new) }
         ensures unchanged { OnlyCounts (S.state store.old) (S.state store.new) }
         ensures count { Counts (is_err result) (S.state store.old).faults (S.state store.new).faults }
     {
@@ -196,7 +196,7 @@ impl<R: Receipt> ReadCache<R> {
         requires block { from % 65536 + length buf.old ≤ 65536 }
         ensures bytes { OnOk result (IfSome (R.state receipt.now).told
             (λ told. buf.new ≡ take (length buf.old) (drop from told))) }
-        ensures asked { AddsGets (R.state receipt.now) 65536 1 (S.gets store.old) (S.gets store.new) }
+        ensures asked { AsksGetsOf (R.state receipt.now) 65536 1 (S.gets store.old) (S.gets store.new) }
         ensures unchanged { OnlyCounts (S.state store.old) (S.state store.new) }
         ensures count { Counts (is_err result) (S.state store.old).faults (S.state store.new).faults }
     {

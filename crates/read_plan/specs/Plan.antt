@@ -2,7 +2,7 @@
 use Rattle.std.specs.Prelude.{◌≡◌, ℕ, ◌+◌, ◌≤◌, max, Option, IfSome, List, [], ◌∷◌, length, take}
 use Rattle.std.specs.List.{AllByRecursion}
 use Rattle.lsvd_objstore.specs.Store.{ReceiptState, StoreCall}
-use Rattle.read_cache.specs.Reading.{AddsGets}
+use Rattle.read_cache.specs.Reading.{AsksGetsOf}
 use Rattle.lsvd_bytes.specs.Places.{bytes_at, with_bytes}
 
 -- a part of a read that an object has
@@ -62,7 +62,7 @@ GivesNoOther plan given = (bytes : List ℕ) → Gives plan bytes → bytes ≡ 
 -- where a store tells its gets, at most two were asked of it for a piece: of its object, and none longer than a block of the
 -- cache or than the piece
 abbrev pub AsksFor : PieceState → Option (List StoreCall) → Option (List StoreCall) → Type 0
-AsksFor piece old new = AddsGets piece.receipt (max 65536 piece.count) 2 old new
+AsksFor piece old new = AsksGetsOf piece.receipt (max 65536 piece.count) 2 old new
 
 -- so it was for each of these pieces, one after the other
 abbrev pub AreAsked : List PieceState → Option (List StoreCall) → Option (List StoreCall) → Type 0

@@ -4,7 +4,8 @@
 //! Its contract: a plan has the sectors as they were at the look, whatever is written or settled after it; a
 //! fetch reads the objects alone. The objects of a plan are pinned in the list of the volume's objects until
 //! the plan is released, so that none is removed. It stands on `obj_log` for the places of sectors and for
-//! pins, on `cache_log` for the log, and on `lsvd_objstore` for the store.
+//! pins, on `cache_log` for the log, on `read_cache` for the gets of a fetch, and on `lsvd_objstore` for the
+//! store.
 #![tactic(auto)]
 
 mod error;

@@ -1,17 +1,15 @@
 -- A read of a rig: it looks, fetches what the plan gives, and gives the plan back.
-use Rattle.std.proofs.Common.{◌≡◌, ℕ, ◌+◌, ◌≤◌, Bool, true, false, cond, List, [], ◌∷◌, ◌++◌, length, take, refl, sym, ◌∙◌, ap}
+use Rattle.std.proofs.Common.{◌≡◌, ℕ, ◌+◌, ◌≤◌, Bool, true, false, cond, List, [], ◌∷◌, ◌++◌, refl, sym, ◌∙◌, ap}
 use Rattle.std.proofs.Common.{subst, inl, inr, arith}
-use Rattle.std.specs.Prelude.{Option, Some, None, is_some, is_err, IsTrue, IfSome, Result, Ok, Err, IfOk, OnOk, if◌then◌else◌}
+use Rattle.std.specs.Prelude.{Option, Some, None, is_some, IsTrue, IfSome, Result, Ok, Err, IfOk, if◌then◌else◌}
 use Rattle.std.specs.Global.{Vec}
 use Rattle.std.specs.declared.alloc.AllocError.{AllocError}
-use Rattle.std.proofs.lemmas.List.{take-append-le, take_all}
 use Rattle.lsvd_base.specs.declared.entry.Entry.{Entry}
 use Rattle.lsvd_base.specs.Limits.{may_transfer}
 use Rattle.lsvd_device.specs.Calls.{Budget}
 use Rattle.lsvd_device.specs.Medium.{Medium}
 use Rattle.lsvd_device.specs.Memory.{HasRoom}
 use Rattle.lsvd_device.specs.Stop.{HasNow}
-use Rattle.lsvd_fault.specs.Faults.{Counts}
 use Rattle.lsvd_objstore.specs.Memory.{Kept, told_receipt}
 use Rattle.cache_log.specs.declared.row.Row.{Row}
 use Rattle.cache_log.specs.Committed.{IsOnDisk}
@@ -255,15 +253,15 @@ is_planned lba sectors old middle plain plan h of =
     ]
 
 -- and after it was given back
-given_back : (lba sectors : ℕ) (old : RigState) (middle volume : SteppedVolume) (plain : PlainState) (plan : PlanState)
+given_back : (lba sectors : ℕ) (old : RigState) (middle volume : SteppedVolume) (plain : PlainState) (made plan : PlanState)
     (reply : Reply Kept)
-    → ShowsPlain old plain → CountedStep told_receipt (Look lba sectors) (told.Planned plan) old.volume middle
+    → ShowsPlain old plain → CountedStep told_receipt (Look lba sectors) (told.Planned made) old.volume middle
     → CountedStep told_receipt (Release plan) reply middle volume
     → ShowsPlain (rig_of middle old.objects old.puts old.is_stopping (old.lines + 1))
     (plain_after (events.Look lba sectors) plain)
     → ShowsPlain (rig_of volume old.objects old.puts old.is_stopping (old.lines + 1))
     (plain_after (events.Release plan.objects) (plain_after (events.Look lba sectors) plain))
-given_back lba sectors old middle volume plain plan reply h of back shown =
+given_back lba sectors old middle volume plain made plan reply h of back shown =
     let looked : PlainState = plain_after (events.Look lba sectors) plain in
     let next : PlainState = plain_after (events.Release plan.objects) looked in
     let between : RigState = rig_of middle old.objects old.puts old.is_stopping (old.lines + 1) in
@@ -279,15 +277,15 @@ given_back lba sectors old middle volume plain plan reply h of back shown =
       | inr n ↦ absurd (let e = n.may in cc)
     ]
 
-pub read_shows : (lba sectors : ℕ) (old : RigState) (middle volume : SteppedVolume) (plain : PlainState) (plan : PlanState)
+pub read_shows : (lba sectors : ℕ) (old : RigState) (middle volume : SteppedVolume) (plain : PlainState) (made plan : PlanState)
     (reply : Reply Kept)
-    → ShowsPlain old plain → CountedStep told_receipt (Look lba sectors) (told.Planned plan) old.volume middle
+    → ShowsPlain old plain → CountedStep told_receipt (Look lba sectors) (told.Planned made) old.volume middle
     → CountedStep told_receipt (Release plan) reply middle volume
     → (now : PlainState) × ShowsPlain (rig_of volume old.objects old.puts old.is_stopping (old.lines + 1)) now
-read_shows lba sectors old middle volume plain plan reply h of back =
-    let planned = is_planned lba sectors old middle plain plan h of in (
+read_shows lba sectors old middle volume plain made plan reply h of back =
+    let planned = is_planned lba sectors old middle plain made h of in (
       plain_after (events.Release plan.objects) (plain_after (events.Look lba sectors) plain),
-      given_back lba sectors old middle volume plain plan reply h of back planned.now,
+      given_back lba sectors old middle volume plain made plan reply h of back planned.now,
     )
 
 -- ---- the bytes of a plan
@@ -298,37 +296,25 @@ told_here : (G : Type 0) (P : Medium → Type 0) (rows : List Row) (moments : Li
 told_here G P rows [] entries is has known = absurd has
 told_here G P rows (now ∷ past) entries is has known = subst (λ e. IfSome e (λ list. G)) is known
 
-pub read_planned : (lba sectors : ℕ) (old : RigState) (middle volume : SteppedVolume) (plan : PlanState) (reply : Reply Kept)
-    (held : Vec ℕ)
-    → IsOnDisk old.volume.volume.log → CountedStep told_receipt (Look lba sectors) (told.Planned plan) old.volume middle
-    → CountedStep told_receipt (Release plan) reply middle volume → GivesNoOther plan held.items
+-- the plan that is given back has the objects of the one that was made
+pub read_planned : (lba sectors : ℕ) (old : RigState) (middle volume : SteppedVolume) (made plan : PlanState) (reply : Reply Kept)
+    (held : Vec ℕ) → plan.objects ≡ made.objects
+    → IsOnDisk old.volume.volume.log → CountedStep told_receipt (Look lba sectors) (told.Planned made) old.volume middle
+    → CountedStep told_receipt (Release plan) reply middle volume → GivesNoOther made held.items
     → AnswersRead lba sectors (answers.Sectors held) old (rig_of volume old.objects old.puts old.is_stopping (old.lines + 1))
-read_planned lba sectors old middle volume plan reply held on_disk of back only = record {
+read_planned lba sectors old middle volume made plan reply held same on_disk of back only = record {
   by = λ plain h.
       let log : LogState = old.volume.volume.log in
       let rig : RigState = rig_of volume old.objects old.puts old.is_stopping (old.lines + 1) in
       let event : PlainEvent = events.Look lba sectors in
-      let planned = is_planned lba sectors old middle plain plan h of in
+      let planned = is_planned lba sectors old middle plain made h of in
       let bytes : List ℕ = planned.read.data in
       let looked : PlainState = plain_after event plain in
-      let gives = told_here (Gives plan bytes) _ log.rows log.commits.disk.moments log.entries on_disk.entries
+      let gives = told_here (Gives made bytes) _ log.rows log.commits.disk.moments log.entries on_disk.entries
       (pending_count log plain.cache h.pending) planned.tells.gives in (
         subst (λ r. SaysReply r (answers.Sectors held)) (sym planned.is) (held, refl, sym (only bytes gives)),
         subst (λ r. ShowsPlain rig (released_by r looked)) (sym planned.is)
-            (subst (λ objects. ShowsPlain rig (plain_after (events.Release objects) looked)) planned.tells.objects
-            (given_back lba sectors old middle volume plain plan reply h of back planned.now)),
+            (subst (λ objects. ShowsPlain rig (plain_after (events.Release objects) looked)) (same ∙ planned.tells.objects)
+            (given_back lba sectors old middle volume plain made plan reply h of back planned.now)),
       );
 }
-
--- a store without faults fails no fetch
-no_fault_counted : (before : ℕ) → Counts true before before → before ≡ 0 → ⊥
-no_fault_counted before one none = elim one.risen [ inl less ↦ omega (arith, less) | inr most ↦ omega (arith, most, none) ]
-
-pub fetched : {T E : Type 0} (result : Result T E) (plan : PlanState) (buf items : List ℕ) → Counts (is_err result) 0 0
-    → OnOk result (GivesNoOther plan buf) → items ≡ buf → GivesNoOther plan items
-fetched (Ok done) plan buf items counts gives same = subst (GivesNoOther plan) (sym same) gives
-fetched (Err failed) plan buf items counts gives same = absurd (no_fault_counted 0 counts refl)
-
--- the front of a list that begins with all of another is that one
-pub all_of : (n : ℕ) (buf more : List ℕ) → length buf ≡ n → take n (buf ++ more) ≡ buf
-all_of n buf more is = take-append-le n buf more (omega (arith, is)) ∙ take_all n buf (omega (arith, is))

@@ -140,11 +140,11 @@ impl Rig {
         ensures lines { self.new.lines ≤ self.old.lines + 1 }
     {
         self.lines += 1;
-        let plan = match self.volume.step(Event::Look { lba, sectors }) {
+        let mut plan = match self.volume.step(Event::Look { lba, sectors }) {
             Reply::Planned(plan) => plan,
             reply => return answer_of(reply),
         };
-        let outcome = fetched(alloc, &plan, &mut self.store, &mut self.cache);
+        let outcome = fetched(alloc, &mut plan, &mut self.store, &mut self.cache);
         drop(self.volume.step(Event::Release(plan)));
         let bytes = outcome?;
         Ok(Answer::Sectors(bytes))
@@ -426,20 +426,21 @@ impl Rig {
     }
 }
 
-// What a plan reads, through a cache. The one error is out of memory.
+// What a plan reads, through a cache. A store in memory fails no call.
 fn fetched(
     alloc: Global,
-    plan: &Plan<MemReceipt>,
+    plan: &mut Plan<MemReceipt>,
     store: &mut MemStore,
     cache: &mut ReadCache<MemReceipt>,
 ) -> Result<Vec<u8>, AllocError>
-    ensures gives { IfOk result (λ bytes. GivesNoOther plan.now bytes.items) }
+    ensures gives { IfOk result (λ bytes. GivesNoOther plan.old bytes.items) }
+    ensures objects { plan.new.objects ≡ plan.old.objects }
     ensures store { store.new ≡ store.old }
 {
-    let mut bytes = vec![in alloc; 0; plan.len()]?;
-    // A store in memory fails no call.
-    let _ = plan.fetch(store, cache, bytes.as_mut_slice());
-    Ok(bytes)
+    match plan.fetch(alloc, store, cache) {
+        Ok(bytes) => Ok(bytes),
+        Err(_) => Err(AllocError),
+    }
 }
 
 // What the plan of a copy takes. The one error is out of memory: a store in memory fails no call.

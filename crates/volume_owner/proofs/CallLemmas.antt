@@ -1,5 +1,6 @@
 -- Calls of an owner, made of steps and puts.
-use Rattle.std.proofs.Common.{arith, ◌≡◌, ℕ, ◌+◌, ◌≤◌, inl, inr, Bool, true, false, List, [], ◌∷◌, refl, sym, ◌∙◌, ap, subst}
+use Rattle.std.proofs.Common.{arith, ◌≡◌, ℕ, ◌+◌, ◌*◌, ◌≤◌, inl, inr, Bool, true, false, List, [], ◌∷◌, length, refl, sym}
+use Rattle.std.proofs.Common.{◌∙◌, ap, subst}
 use Rattle.std.specs.Prelude.{◌↔◌, Option, Some, None, Result, Ok, Err, IsOkUnless, IsErrOf, IsErrAnd}
 use Rattle.lsvd_base.specs.declared.entry.Entry.{Entry}
 use Rattle.lsvd_base.specs.declared.geometry.Geometry.{Geometry}
@@ -18,6 +19,7 @@ use Rattle.volume_owner.specs.Calls.{IsLengthOf, IsDrained, HasSectors, KeepsOth
 use Rattle.volume_owner.specs.Calls.{EnterOf, DrainOf, ReadOf}
 use Rattle.volume_owner.specs.declared.error.OwnerError.{OwnerError}
 use Rattle.volume_owner.specs.declared.error.OwnerError.TheVariants as errors
+use Rattle.volume_owner.specs.declared.reading.SectorsRead.{SectorsRead}
 use Rattle.volume_owner.specs.Errors.{is_eio, of_store}
 use Rattle.volume_owner.specs.Owner.{most_of_call}
 use Rattle.volume_owner.proofs.PlainLemmas.{goes_on_nothing}
@@ -244,7 +246,7 @@ read_call state most failed old mid last first second two look_acts release_acts
 -- ---- what each call promises, by what it answers
 
 -- another error is no `Range`
-other_error : (error : OwnerError) → (error ≡ errors.Range → ⊥) → IsErrOf {T = ℕ} (Err error) errors.Range → ⊥
+other_error : {T : Type 0} (error : OwnerError) → (error ≡ errors.Range → ⊥) → IsErrOf {T = T} (Err error) errors.Range → ⊥
 other_error error other is = (let same : error ≡ errors.Range = cc in other same)
 
 -- a test of a volume's sizes tells so of them
@@ -253,7 +255,7 @@ pub told_of_sizes : (holds : Geometry → Bool) (own sizes : Geometry) (told out
 told_of_sizes holds own sizes told outcome same is so = ap holds (sym same) ∙ sym is ∙ so
 
 -- what is in range is not answered by `Range`
-in_range_is : (result : Result ℕ OwnerError) (inside : Bool) → inside ≡ true → (IsErrOf result errors.Range → ⊥)
+in_range_is : {T : Type 0} (result : Result T OwnerError) (inside : Bool) → inside ≡ true → (IsErrOf result errors.Range → ⊥)
     → IsErrOf result errors.Range ↔ (inside ≡ false)
 in_range_is result inside is other = (
   λ range. absurd (other range),
@@ -318,41 +320,46 @@ drain_failed state result error old new first second is other call =
     subst (λ (r : Result ℕ OwnerError). DrainOf state r old new first second) (sym is) failed
 
 -- a read of sectors that may not be transferred is refused, and nothing is done
-pub read_refused : {R : Type 0} (state : R → ReceiptState) (lba sectors : ℕ) (bytes : List ℕ) (volume : SteppedVolume)
+pub read_refused : {R : Type 0} (state : R → ReceiptState) (lba sectors : ℕ) (volume : SteppedVolume)
     (store : StoreState) → may_transfer volume.volume.objects.batch.geometry lba sectors ≡ false
-    → ReadOf state lba sectors bytes (Err errors.Range) volume volume store store
-read_refused state lba sectors bytes volume store outside = record {
+    → ReadOf state lba sectors (Err errors.Range) volume volume store store
+read_refused state lba sectors volume store outside = record {
   call = nothing_call state most_of_call volume store;
   length = tt;
   given = tt;
+  size = tt;
   range = (λ is. outside, λ is. refl);
 }
 
 -- one of others gives its bytes
-pub read_given : {R : Type 0} (state : R → ReceiptState) (lba sectors : ℕ) (bytes : List ℕ) (count : ℕ)
+pub read_given : {R : Type 0} (state : R → ReceiptState) (lba sectors : ℕ) (read : SectorsRead)
     (old new : SteppedVolume) (first second : StoreState) → may_transfer old.volume.objects.batch.geometry lba sectors ≡ true
-    → IsCall state most_of_call [] false old new first second → IsLengthOf count old.volume
-    → HasSectors state old.volume lba bytes → ReadOf state lba sectors bytes (Ok count) old new first second
-read_given state lba sectors bytes count old new first second inside call length_is given = record {
+    → IsCall state most_of_call [] false old new first second → IsLengthOf read.history_length old.volume
+    → HasSectors state old.volume lba read.body → length read.body ≡ 512 * sectors
+    → ReadOf state lba sectors (Ok read) old new first second
+read_given state lba sectors read old new first second inside call length_is given size = record {
   call = call;
   length = length_is;
   given = given;
-  range = in_range_is (Ok count) (may_transfer old.volume.objects.batch.geometry lba sectors) inside (λ is. cc);
+  size = size;
+  range = in_range_is (Ok read) (may_transfer old.volume.objects.batch.geometry lba sectors) inside (λ is. cc);
 }
 
 -- or it fails
-pub read_failed : {R : Type 0} (state : R → ReceiptState) (lba sectors : ℕ) (bytes : List ℕ) (result : Result ℕ OwnerError)
+pub read_failed : {R : Type 0} (state : R → ReceiptState) (lba sectors : ℕ) (result : Result SectorsRead OwnerError)
     (error : OwnerError) (old new : SteppedVolume) (first second : StoreState) → result ≡ Err error
     → (error ≡ errors.Range → ⊥) → may_transfer old.volume.objects.batch.geometry lba sectors ≡ true
     → IsCall state most_of_call [] (is_eio {T = ℕ} (Err error)) old new first second
-    → ReadOf state lba sectors bytes result old new first second
-read_failed state lba sectors bytes result error old new first second is other inside call =
-    let failed : ReadOf state lba sectors bytes (Err error) old new first second =
+    → ReadOf state lba sectors result old new first second
+read_failed state lba sectors result error old new first second is other inside call =
+    let failed : ReadOf state lba sectors (Err error) old new first second =
     record {
-      call = call;
+      call =
+          subst (λ failed. IsCall state most_of_call [] failed old new first second) (same_eio ℕ SectorsRead error) call;
       length = tt;
       given = tt;
+      size = tt;
       range =
           in_range_is (Err error) (may_transfer old.volume.objects.batch.geometry lba sectors) inside (other_error error other);
     } in
-    subst (λ (r : Result ℕ OwnerError). ReadOf state lba sectors bytes r old new first second) (sym is) failed
+    subst (λ (r : Result SectorsRead OwnerError). ReadOf state lba sectors r old new first second) (sym is) failed

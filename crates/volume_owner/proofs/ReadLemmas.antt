@@ -1,5 +1,5 @@
 -- What a flush does, and a look with the release of its plan.
-use Rattle.std.proofs.Common.{◌≡◌, ℕ, ◌*◌, ◌/◌, ◌==◌, nat_eq, ◌⊎◌, inl, inr, Bool, true, false, cond, ◌&&◌, ◌||◌, List, [], ◌∷◌}
+use Rattle.std.proofs.Common.{◌≡◌, ℕ, ◌*◌, ◌==◌, nat_eq, ◌⊎◌, inl, inr, Bool, true, false, cond, ◌&&◌, ◌||◌, List, [], ◌∷◌}
 use Rattle.std.proofs.Common.{◌++◌, ◌≤◌, length, refl, sym, ◌∙◌, ap, subst, arith}
 use Rattle.std.specs.Prelude.{Option, Some, None, IfSome, IsSome, Ok, Err, if◌then◌else◌}
 use Rattle.std.specs.List.{list_any}
@@ -356,18 +356,19 @@ module _ {R : Type 0} (state : R → ReceiptState) (reply : Reply R) (lba sector
           idle_shown last.volume _ gone (record { puts = was.puts; plans = none; none_out = was.none_out; few = was.few })
       released_by plain was pins (inr n) = (let may = n.may in let bad : ⊥ = cc in absurd bad)
 
-      pub released_idle : (plain : PlainState) → Shows old.volume plain → IsIdle old.volume → reply ≡ told.Planned plan
-          → IsIdle last.volume
-      released_idle plain shows idle is =
+      -- it names the objects of the plan that was made
+      pub released_idle : (made : PlanState) (plain : PlainState) → made.objects ≡ plan.objects → Shows old.volume plain
+          → IsIdle old.volume → reply ≡ told.Planned made → IsIdle last.volume
+      released_idle made plain same shows idle is =
           let was = shown_idle old.volume plain shows idle in
-          let look = looked plan plain shows is in
+          let look = looked made plain shows is in
           released_by look.after (record {
             puts = ap (λ (w : WindowState). any_started w.objects) look.window ∙ was.puts;
             plans = refl;
             none_out = look.removal ∙ was.none_out;
             few = subst (λ (w : WindowState). length w.objects ≤ 16) (sym look.window) was.few;
           })
-          (look.pins ∙ ap (λ (p : List ℕ). p ++ plan.objects) was.plans) (given.step.step look.after look.shows)
+          (look.pins ∙ ap (λ (p : List ℕ). p ++ made.objects) was.plans ∙ same) (given.step.step look.after look.shows)
 
   -- ---- what it gives
 
@@ -380,10 +381,10 @@ module _ {R : Type 0} (state : R → ReceiptState) (reply : Reply R) (lba sector
   looked_length plan plain shows is =
       length_is plan.history_length old.volume plain shows (looked plan plain shows is).tells_read.history_length
 
-  pub looked_sectors : (plan : PlanState) (bytes : List ℕ) → reply ≡ told.Planned plan → length bytes / 512 ≡ sectors
+  pub looked_sectors : (plan : PlanState) (bytes : List ℕ) → reply ≡ told.Planned plan → length bytes ≡ 512 * sectors
       → (((receipt : R) → IsSome (state receipt).told) → GivesNoOther plan bytes) → HasSectors state old.volume lba bytes
   looked_sectors plan bytes is size gives tells plain shows =
       let gave = (looked plan plain shows is).tells_read.gives in
       let had : Gives plan (sectors_at lba sectors (image_now plain)) = if_some old.volume.log.entries _ tells.log gave in
       sym (gives tells.receipts (sectors_at lba sectors (image_now plain)) had)
-      ∙ ap (λ n. sectors_at lba n (image_now plain)) (sym size)
+      ∙ ap (λ n. sectors_at lba n (image_now plain)) (omega (arith, size))

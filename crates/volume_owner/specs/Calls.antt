@@ -1,5 +1,5 @@
 -- Contract: what a call of an owner does to its volume and to the store, told by each plain volume that the volume showed.
-use Rattle.std.specs.Prelude.{◌≡◌, ℕ, ◌+◌, ◌/◌, ◌≤◌, ◌⊎◌, ◌↔◌, Bool, true, false, None, IsSome, List, [], ◌∷◌, length}
+use Rattle.std.specs.Prelude.{◌≡◌, ℕ, ◌+◌, ◌*◌, ◌/◌, ◌≤◌, ◌⊎◌, ◌↔◌, Bool, true, false, None, IsSome, List, [], ◌∷◌, length}
 use Rattle.std.specs.Prelude.{Result, Ok, Err, IfOk, OnOk, IsErrOf, is_err}
 use Rattle.lsvd_base.specs.declared.entry.Entry.{Entry}
 use Rattle.lsvd_base.specs.Limits.{may_transfer}
@@ -23,6 +23,7 @@ use Rattle.vol_core.specs.View.{acknowledged_checkpoint, last_object, log_entrie
 use Rattle.vol_core.specs.View.{volume_disk, volume_geometry, volume_uuid}
 use Rattle.volume_owner.specs.declared.error.OwnerError.{OwnerError}
 use Rattle.volume_owner.specs.declared.error.OwnerError.TheVariants.{Range}
+use Rattle.volume_owner.specs.declared.reading.SectorsRead.{SectorsRead}
 use Rattle.volume_owner.specs.Acts.{moment_of, IsMadeOfActs, MakesStep}
 use Rattle.volume_owner.specs.Errors.{is_eio}
 use Rattle.volume_owner.specs.History.{GoesOn}
@@ -141,11 +142,12 @@ pub record DrainOf {R : Type 0} (state : R → ReceiptState) (result : Result �
   pub drained : OnOk result (IsDrained new.volume)
   pub in_range : IsErrOf result Range → ⊥
 
--- What a read is, of so many sectors from one on, and of these bytes: nothing is added, and the bytes are those sectors where the
--- length of the history is answered that they are of. The sectors are out of range exactly where `Range` is.
-pub record ReadOf {R : Type 0} (state : R → ReceiptState) (lba sectors : ℕ) (bytes : List ℕ) (result : Result ℕ OwnerError)
+-- What a read is, of so many sectors from one on: nothing is added, and what is answered are those sectors, with the length of
+-- the history that they are of. The sectors are out of range exactly where `Range` is.
+pub record ReadOf {R : Type 0} (state : R → ReceiptState) (lba sectors : ℕ) (result : Result SectorsRead OwnerError)
     (old new : SteppedVolume) (old_store new_store : StoreState) : Type 0 where
   pub call : IsCall state most_of_call [] (is_eio result) old new old_store new_store
-  pub length : IfOk result (λ length. IsLengthOf length old.volume)
-  pub given : OnOk result (HasSectors state old.volume lba bytes)
+  pub size : IfOk result (λ read. length read.body ≡ 512 * sectors)
+  pub given : IfOk result (λ read. HasSectors state old.volume lba read.body)
+  pub length : IfOk result (λ read. IsLengthOf read.history_length old.volume)
   pub range : IsErrOf result Range ↔ (may_transfer (volume_geometry old.volume) lba sectors ≡ false)

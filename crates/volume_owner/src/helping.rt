@@ -61,7 +61,7 @@ fn put<D: Disk, R: Receipt, S: Store<Receipt = R>>(
     ensures error { IsErrOf result OwnerError.Range → ⊥ }
     ensures idle { IsIdle volume.new.volume }
 {
-    match store.put(alloc, job.name(), job.object()) {
+    match job.put(alloc, store) {
         Ok(receipt) => {
             drop(volume.step(Event::JobDone { job, receipt }));
             Ok(())

@@ -1,4 +1,4 @@
-ghost use Rattle.std.specs.Prelude.{◌≡◌, ◌≤◌, ◌/◌, ◌%◌, IsTrue, length};
+ghost use Rattle.std.specs.Prelude.{◌≡◌, ◌≤◌, IsTrue};
 ghost use Rattle.lsvd_base.specs.declared.entry.Entry.TheVariants as entries;
 ghost use Rattle.lsvd_base.specs.Limits.{is_within_limits};
 ghost use Rattle.vol_core.specs.View.{volume_geometry, volume_uuid};
@@ -10,7 +10,7 @@ use crate::collecting::{Turn, collect};
 use crate::draining::drain;
 use crate::entering::enter;
 use crate::error::OwnerError;
-use crate::reading::{flush, read};
+use crate::reading::{SectorsRead, flush, read};
 use lsvd_base::{Body, Entry, Geometry};
 use lsvd_device::Disk;
 use lsvd_fault::Failed;
@@ -134,26 +134,25 @@ impl<D: Disk, R: Receipt> Owner<D, R> {
         drain(alloc, &mut self.volume, store)
     }
 
-    /// Reads the sectors from `lba` on into the whole of a buffer of whole sectors (a condition), those of
-    /// objects through a cache, and answers how many entries the history has that the sectors are those of.
-    /// Where the volume tells what it holds, they are its sectors.
+    /// Reads `sectors` sectors from `lba` on, those of objects through a cache. Where the volume tells what
+    /// it holds, they are its sectors.
     ///
     /// `Range` comes exactly where the sectors are not 1 to `max_write` that lie inside the volume. `Eio`
     /// comes where a call of the disk or of the store failed, which that counted, and `OutOfMemory` where
-    /// memory ran out. After an error any bytes stand in the buffer.
+    /// memory ran out.
     pub fn read<S: Store<Receipt = R>>(
         &mut self,
+        alloc: Global,
         store: &mut S,
         cache: &mut ReadCache<R>,
         lba: u64,
-        buf: &mut [u8],
-    ) -> Result<u64, OwnerError>
-        requires steps { self.old.steps ≤ max_steps }
-        requires whole { length buf.old % 512 ≡ 0 }
-        ensures { ReadOf R.state lba (length buf.old / 512) buf.new result self.old self.new
-            (S.state store.old) (S.state store.new) }
+        sectors: u64,
+    ) -> Result<SectorsRead, OwnerError>
+        requires { self.old.steps ≤ max_steps }
+        ensures { ReadOf R.state lba sectors result self.old self.new (S.state store.old)
+            (S.state store.new) }
     {
-        read(&mut self.volume, store, cache, lba, buf)
+        read(alloc, &mut self.volume, store, cache, lba, sectors)
     }
 
     /// Lets the disk hand over what it gathered of writes, so that it outlasts the end of this program. For

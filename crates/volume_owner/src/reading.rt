@@ -1,4 +1,4 @@
-ghost use Rattle.std.specs.Prelude.{◌≡◌, ◌<◌, ◌≤◌, ◌/◌, ◌%◌, length};
+ghost use Rattle.std.specs.Prelude.{◌≡◌, ◌<◌, ◌≤◌};
 ghost use Rattle.vol_core.specs.declared.event.Event.TheVariants as events;
 ghost use Rattle.vol_core.specs.Shows.{max_number};
 ghost use Rattle.volume_owner.specs.Owner.{IsIdle, max_steps};
@@ -8,40 +8,51 @@ ghost use Rattle.volume_owner.specs.Helping.{work_of};
 
 use crate::error::OwnerError;
 use crate::replies::{count_of, plan_of};
-use lsvd_base::SECTOR_BYTES;
+use lsvd_base::Body;
 use lsvd_device::Disk;
 use lsvd_fault::Failed;
 use lsvd_objstore::{Receipt, Store};
 use read_cache::ReadCache;
+use std::alloc::Global;
 use vol_core::{Event, Volume};
 
-/// Reads the sectors from `lba` on into the whole of a buffer of whole sectors (a condition): plans the read,
-/// fetches it through a cache, and gives the plan back, whatever the fetch answered. Answers the length of
-/// the history at the plan.
+/// What a read gives.
+#[derive(Debug, Drop)]
+pub struct SectorsRead {
+    /// How many entries the history has that the sectors are those of.
+    pub history_length: u64,
+    /// The sectors.
+    pub body: Body,
+}
+
+/// Reads `sectors` sectors from `lba` on: plans the read, fetches it through a cache, and gives the plan
+/// back, whatever the fetch answered.
 pub(crate) fn read<D: Disk, R: Receipt, S: Store<Receipt = R>>(
+    alloc: Global,
     volume: &mut Volume<D, R>,
     store: &mut S,
     cache: &mut ReadCache<R>,
     lba: u64,
-    buf: &mut [u8],
-) -> Result<u64, OwnerError>
+    sectors: u64,
+) -> Result<SectorsRead, OwnerError>
     requires steps { volume.old.steps ≤ max_steps }
     requires idle { IsIdle volume.old.volume }
-    requires whole { length buf.old % 512 ≡ 0 }
-    ensures read { ReadOf R.state lba (length buf.old / 512) buf.new result volume.old volume.new
-        (S.state store.old) (S.state store.new) }
+    ensures read { ReadOf R.state lba sectors result volume.old volume.new (S.state store.old)
+        (S.state store.new) }
     ensures idle { IsIdle volume.new.volume }
 {
-    let sectors = buf.len() as u64 / SECTOR_BYTES;
     if !volume.geometry().may_transfer(lba, sectors) {
         return Err(OwnerError::Range);
     }
-    let plan = plan_of(volume.step(Event::Look { lba, sectors }))?;
-    let length = plan.history_length();
-    let fetched = plan.fetch(store, cache, buf);
+    let mut plan = plan_of(volume.step(Event::Look { lba, sectors }))?;
+    let history_length = plan.history_length();
+    let fetched = plan.fetch(alloc, store, cache);
     drop(volume.step(Event::Release(plan)));
-    fetched?;
-    Ok(length)
+    let body = Body::from_bytes(fetched?);
+    Ok(SectorsRead {
+        history_length,
+        body,
+    })
 }
 
 /// Commits each entry so far, and answers the length of the history. `Failed` comes where a call of the disk

@@ -15,16 +15,16 @@ use Rattle.volume_owner.specs.Owner.{most_of_call}
 use Rattle.volume_server.specs.OwnerDevice.{Calls, Flushes, of_owner}
 
 -- what is in range is not refused for it
-not_refused : (passes : Bool) → passes ≡ true → (IsErrOf {T = ℕ} (Err owner_errors.Range) owner_errors.Range ↔ (passes ≡ false))
-    → ⊥
+not_refused : {T : Type 0} (passes : Bool) → passes ≡ true
+    → (IsErrOf {T = T} (Err owner_errors.Range) owner_errors.Range ↔ (passes ≡ false)) → ⊥
 not_refused true is refused = let bad : true ≡ false = refused.0 refl in cc
 not_refused false is refused = cc
 
 -- a call that is answered with an error entered nothing
-pub not_done : {R : Type 0} (state : R → ReceiptState) (passes : Bool) (error : OwnerError) (old new : Moment)
-    → passes ≡ true → (IsErrOf {T = ℕ} (Err error) owner_errors.Range ↔ (passes ≡ false))
-    → Calls state [] (is_eio {T = ℕ} (Err error)) old new → Calls state [] (is_io (Err (of_owner error))) old new
-not_done state passes owner_errors.Range old new is refused call = absurd (not_refused passes is refused)
+pub not_done : {R T : Type 0} (state : R → ReceiptState) (passes : Bool) (error : OwnerError) (old new : Moment)
+    → passes ≡ true → (IsErrOf {T = T} (Err error) owner_errors.Range ↔ (passes ≡ false))
+    → Calls state [] (is_eio {T = T} (Err error)) old new → Calls state [] (is_io (Err (of_owner error))) old new
+not_done {T = T} state passes owner_errors.Range old new is refused call = absurd (not_refused {T = T} passes is refused)
 not_done state passes owner_errors.Eio old new is refused call = call
 not_done state passes owner_errors.OutOfMemory old new is refused call = call
 

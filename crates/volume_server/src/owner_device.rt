@@ -72,9 +72,15 @@ impl<D: Disk, R: Receipt, S: Store<Receipt = R>> BlockDevice<S> for OwnerDevice<
         self.owner.steps()
     }
 
-    fn read(&mut self, store: &mut S, lba: u64, buf: &mut [u8]) -> Result<(), BlockError> {
-        match self.owner.read(store, &mut self.cache, lba, buf) {
-            Ok(_) => Ok(()),
+    fn read(
+        &mut self,
+        alloc: Global,
+        store: &mut S,
+        lba: u64,
+        sectors: u64,
+    ) -> Result<Body, BlockError> {
+        match self.owner.read(alloc, store, &mut self.cache, lba, sectors) {
+            Ok(read) => Ok(read.body),
             Err(error) => Err(told(error)),
         }
     }

@@ -1,5 +1,3 @@
-ghost use Rattle.std.specs.Prelude.{◌≡◌, ◌%◌, length, IfOk};
-
 use crate::answer::filled_with;
 use crate::creating::created;
 use crate::step::Byte;
@@ -168,18 +166,8 @@ pub fn read(
         return Err(TestError::Refused);
     }
     let mut cache = ReadCache::new(alloc, 0)?;
-    let mut buf = eight_sectors(alloc)?;
-    let outcome = owner.read(store, &mut cache, lba, buf.as_mut_slice());
-    let byte = filled_with(buf.as_slice());
-    drop(buf);
+    let outcome = owner.read(alloc, store, &mut cache, lba, 8);
     drop(cache);
-    outcome.map_err(error_of)?;
-    Ok(Byte(byte))
-}
-
-// Eight sectors of a byte that no one writes.
-fn eight_sectors(alloc: Global) -> Result<Vec<u8>, AllocError>
-    ensures { IfOk result (λ bytes. length bytes.items % 512 ≡ 0) }
-{
-    Ok(vec![in alloc; 0xee; 4_096]?)
+    let read = outcome.map_err(error_of)?;
+    Ok(Byte(filled_with(read.body.as_bytes())))
 }

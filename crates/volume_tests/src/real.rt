@@ -69,7 +69,7 @@ impl Real {
                 write(alloc, &mut self.volume, lba, sectors, byte)
             }
             Step::Look(lba, sectors) => look(&mut self.volume, &mut self.plan, lba, sectors),
-            Step::Fetch => fetch(alloc, &self.plan, &mut self.store, &mut self.cache),
+            Step::Fetch => fetch(alloc, &mut self.plan, &mut self.store, &mut self.cache),
             Step::Release => release(&mut self.volume, &mut self.plan),
             Step::Read(lba, sectors) => self.read(alloc, lba, sectors),
             Step::Take => take(&mut self.volume, &mut self.jobs),
@@ -87,7 +87,7 @@ impl Real {
         if !matches!(looked, Answer::Planned(..)) {
             return Ok(looked);
         }
-        let read = fetch(alloc, &self.plan, &mut self.store, &mut self.cache)?;
+        let read = fetch(alloc, &mut self.plan, &mut self.store, &mut self.cache)?;
         release(&mut self.volume, &mut self.plan)?;
         Ok(read)
     }
@@ -182,19 +182,15 @@ fn look(
 
 fn fetch(
     alloc: Global,
-    plan: &Option<Plan<MemReceipt>>,
+    plan: &mut Option<Plan<MemReceipt>>,
     store: &mut MemStore,
     cache: &mut ReadCache<MemReceipt>,
 ) -> Result<Answer, TestError> {
     let Some(plan) = plan else {
         return Ok(Answer::Nothing);
     };
-    let mut read = vec![in alloc; 9; plan.len()]?;
-    let fetched = plan.fetch(store, cache, read.as_mut_slice());
-    let sectors = Sectors::of(read.as_slice());
-    drop(read);
-    fetched?;
-    Ok(Answer::Data(sectors))
+    let read = plan.fetch(alloc, store, cache)?;
+    Ok(Answer::Data(Sectors::of(read.as_slice())))
 }
 
 fn release(
@@ -237,7 +233,7 @@ fn put(
     store: &mut MemStore,
     job: Job,
 ) -> Result<Answer, TestError> {
-    let receipt = store.put(alloc, job.name(), job.object())?;
+    let receipt = job.put(alloc, store)?;
     answered(volume, Event::JobDone { job, receipt })
 }
 

@@ -27,6 +27,12 @@ returns-then-not-begins_before-clause-taken g c =
       room = c.cut_one.ensures.room;
     }
 
+pub first_after-last-requires-clause-early : goal.first_after-last-requires-clause-early
+first_after-last-requires-clause-early g c =
+    some_between c.args.end c.args.lba _ c.args.rows.now.items c.get.result c.begins_before.result
+    (omega (arith, c.requires.order)) c.first_from-first.ensures.index
+    c.begins_before.ensures c.get.ensures c.if-not-begins_before.false
+
 pub cut_back-requires-clause-index : goal.cut_back-requires-clause-index
 cut_back-requires-clause-index g c =
     let found = some_between c.args.end c.args.lba _ c.args.rows.now.items c.get.result c.begins_before.result

@@ -1,4 +1,4 @@
-use Rattle.std.proofs.Common.{arith, ◌≡◌, false, [], sym, subst, Ok, Err}
+use Rattle.std.proofs.Common.{arith, ◌≡◌, false, [], sym, subst, Err}
 use Rattle.std.specs.Prelude.{Result, IfOk}
 use Rattle.lsvd_fault.specs.Faults.{Counts}
 use Rattle.lsvd_objstore.specs.Store.{StoreState}

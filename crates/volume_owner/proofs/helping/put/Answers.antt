@@ -1,8 +1,7 @@
-use Rattle.std.proofs.Common.{◌≡◌, ℕ, List, [], refl, sym, ◌∙◌, ap, subst, Err}
+use Rattle.std.proofs.Common.{◌≡◌, ℕ, List, [], refl, sym, ap, subst, Err}
 use Rattle.lsvd_fault.specs.Faults.{Counts}
 use Rattle.lsvd_objstore.specs.declared.error.StoreError.{StoreError}
 use Rattle.lsvd_objstore.specs.Store.{StoreState, has_failed}
-use Rattle.lsvd_names.specs.declared.name.ObjName.{ObjName}
 use Rattle.object_uploads.specs.State.{JobState}
 use Rattle.vol_core.specs.declared.event.Event.TheVariants as asks
 use Rattle.vol_core.specs.Volume.{SteppedVolume}
@@ -23,25 +22,22 @@ returns-in-Ok g c =
     let old : SteppedVolume = c.args.volume.now in
     let new : SteppedVolume = c.step.new.self in
     let uuid : List ℕ = old.volume.objects.uploads.uuid in
-    let name : ObjName = c.name.result.now in
-    let bytes : List ℕ = c.object.result.now in
     let taken = c.requires.job in
-    let same : name ≡ job.name = c.name.ensures.is in
     let of = c.step.ensures in
     let plain = of.was.plain in
     let shows = of.was.shows in
     let receipt = c.in-Ok.receipt in
     let put = c.in-Ok.ensures in
-    let named : (state receipt).name ≡ job.name = put.receipt.named ∙ same in
+    let named : (state receipt).name ≡ job.name = put.receipt.named in
     let first : StoreState = g.S.Store.state c.args.store.now in
-    let second : StoreState = g.S.Store.state c.put.new.self in
+    let second : StoreState = g.S.Store.state c.put.new.store in
     let left = done_leaves state job receipt reply old new of plain shows taken named in
     record {
       call =
-          put_call state uuid job.name.number name bytes old new first second
-          (done_acts state job name bytes reply old new first second taken same c.object.ensures receipt put.put
+          put_call state uuid job.name.number job.name job.bytes old new first second
+          (done_acts state job job.name job.bytes reply old new first second taken refl refl receipt put.put
           (put.asked (λ is. cc)) put.count of)
-          refl (same ∙ taken.named) put.put put.count
+          refl taken.named put.put put.count
           (done_makes state job receipt reply old new of plain shows taken named)
           (done_faults state job receipt reply old new of plain shows taken named);
       less = left.1;
@@ -58,27 +54,24 @@ returns-in-Err g c =
     let old : SteppedVolume = c.args.volume.now in
     let new : SteppedVolume = c.step-in-Err.new.self in
     let uuid : List ℕ = old.volume.objects.uploads.uuid in
-    let name : ObjName = c.name.result.now in
-    let bytes : List ℕ = c.object.result.now in
     let taken = c.requires.job in
-    let same : name ≡ job.name = c.name.ensures.is in
     let of = c.step-in-Err.ensures in
     let plain = of.was.plain in
     let shows = of.was.shows in
     let error : StoreError = c.in-Err.error in
     let put = c.in-Err.ensures in
     let first : StoreState = g.S.Store.state c.args.store.now in
-    let second : StoreState = g.S.Store.state c.put.new.self in
+    let second : StoreState = g.S.Store.state c.put.new.store in
     let told = c.into.ensures in
     record {
       call =
           subst (λ e. IsCall state 1 [] (is_eio {T = Unit {0}} (Err e)) old new first second) (sym told)
-          (failed_put_call state g.row.R.Denot error uuid job.name.number name bytes old new first second
+          (failed_put_call state g.row.R.Denot error uuid job.name.number job.name job.bytes old new first second
           (λ is.
-          failed_acts state job name bytes reply old new first second taken same c.object.ensures (put.failed (ap Err is))
+          failed_acts state job job.name job.bytes reply old new first second taken refl refl (put.failed (ap Err is))
           (put.asked (no_want error is))
           (subst (λ e. Counts (has_failed {T = g.row.R.Denot} (Err e)) first.faults second.faults) is put.count) of)
-          (step_act state (asks.JobFailed job) reply [] old new first of tt refl) refl (same ∙ taken.named)
+          (step_act state (asks.JobFailed job) reply [] old new first of tt refl) refl taken.named
           (λ is. put.failed (ap Err is)) (λ is. put.unchanged (ap Err is)) put.count
           (failed_makes state job reply old new of plain shows taken)
           (failed_faults state job reply old new of plain shows taken));

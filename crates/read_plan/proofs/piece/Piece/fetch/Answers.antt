@@ -1,7 +1,7 @@
 use Rattle.std.proofs.Common.{◌≡◌, ℕ, ◌+◌, ◌-◌, ◌≤◌, List, length, take, drop, sym, ◌∙◌, subst, arith, length-drop}
 use Rattle.std.specs.Prelude.{max}
 use Rattle.std.proofs.lemmas.List.{length-take-le}
-use Rattle.read_cache.specs.Reading.{AddsGets}
+use Rattle.read_cache.specs.Reading.{AsksGetsOf}
 use Rattle.read_plan.specs.Plan.{PieceState, PieceFits, AsksFor}
 use Rattle.read_plan.proofs.piece.Piece.fetch.Goals as goal
 
@@ -18,5 +18,5 @@ returns-clause-asked g c =
     length-take-le (at + count - at) (drop at under) (omega (arith, long, inside)) ∙ whole in
     subst (λ (p : PieceState). AsksFor p (g.S.Store.gets c.args.store.now) (g.S.Store.gets c.read_through.new.store))
     c.self.view_is
-    (subst (λ n. AddsGets (g.R.Receipt.state c.self.inside.receipt) (max 65536 n) 2 (g.S.Store.gets c.args.store.now)
+    (subst (λ n. AsksGetsOf (g.R.Receipt.state c.self.inside.receipt) (max 65536 n) 2 (g.S.Store.gets c.args.store.now)
     (g.S.Store.gets c.read_through.new.store)) part c.read_through.ensures.asked)

@@ -55,7 +55,7 @@ invariant_of-self-in_err-bytes c =
     let inside = c.self.inside in
     let old : RigState = rig_of inside.volume inside.store inside.puts.list inside.is_stopping inside.lines in
     let shown = read_shows c.args.lba c.args.sectors old c.step.new.self c.step-2.new.self c.self.invariant.0.0
-    c.in-Planned.plan c.step-2.result c.self.invariant.0.1 c.in-Planned.ensures c.step-2.ensures in (
+    c.in-Planned.plan c.fetched-outcome.new.plan c.step-2.result c.self.invariant.0.1 c.in-Planned.ensures c.step-2.ensures in (
       (
         shown.0,
         subst (λ objects. ShowsPlain (rig_of c.step-2.new.self objects inside.puts.list inside.is_stopping
@@ -70,7 +70,7 @@ invariant_of-self-2 c =
     let inside = c.self.inside in
     let old : RigState = rig_of inside.volume inside.store inside.puts.list inside.is_stopping inside.lines in
     let shown = read_shows c.args.lba c.args.sectors old c.step.new.self c.step-2.new.self c.self.invariant.0.0
-    c.in-Planned.plan c.step-2.result c.self.invariant.0.1 c.in-Planned.ensures c.step-2.ensures in (
+    c.in-Planned.plan c.fetched-outcome.new.plan c.step-2.result c.self.invariant.0.1 c.in-Planned.ensures c.step-2.ensures in (
       (
         shown.0,
         subst (λ objects. ShowsPlain (rig_of c.step-2.new.self objects inside.puts.list inside.is_stopping
@@ -87,7 +87,8 @@ returns-clause-ok c =
     let held = c.in_ok-bytes.bytes in
     let now : RigState = rig_of c.step-2.new.self inside.store inside.puts.list inside.is_stopping (inside.lines + 1) in
     let shown : AnswersRead c.args.lba c.args.sectors (answers.Sectors held) old now =
-    read_planned c.args.lba c.args.sectors old c.step.new.self c.step-2.new.self c.in-Planned.plan c.step-2.result held
+    read_planned c.args.lba c.args.sectors old c.step.new.self c.step-2.new.self c.in-Planned.plan c.fetched-outcome.new.plan
+    c.step-2.result held c.fetched-outcome.ensures.objects
     c.in-Planned.ensures.order.on_disk c.in-Planned.ensures c.step-2.ensures c.in_ok-bytes.ensures.gives in
     subst (λ objects. AnswersRead c.args.lba c.args.sectors (answers.Sectors held) c.args.self.now
     (rig_of c.step-2.new.self objects inside.puts.list inside.is_stopping (inside.lines + 1)))

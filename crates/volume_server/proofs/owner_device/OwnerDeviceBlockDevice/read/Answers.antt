@@ -3,7 +3,7 @@ use Rattle.volume_server.proofs.OwnerDeviceLemmas.{not_done}
 use Rattle.volume_server.proofs.owner_device.OwnerDeviceBlockDevice.read.Goals as goal
 
 pub returns-in-Ok : goal.returns-in-Ok
-returns-in-Ok g c = (c.in-Ok.ensures.given, c.in-Ok.ensures.call)
+returns-in-Ok g c = (c.in-Ok.ensures.size, (c.in-Ok.ensures.given, c.in-Ok.ensures.call))
 
 pub returns-in-Err : goal.returns-in-Err
 returns-in-Err g c =

@@ -3,11 +3,11 @@ use Rattle.std.specs.List.{AllByRecursion}
 use Rattle.std.proofs.lemmas.List.{take_all}
 use Rattle.read_plan.specs.Plan.{PieceState, GivesOver, AreAsked, AreAskedOfFirst}
 use Rattle.read_plan.proofs.FetchLemmas.{IsToldPiece, told_next, gives_next, no_other, asked_next, on_err}
-use Rattle.read_plan.proofs.plan.Plan.fetch.Goals as goal
+use Rattle.read_plan.proofs.plan.fetch_each.Goals as goal
 
 pub loop-piece-preserved : goal.loop-piece-preserved
 loop-piece-preserved g c =
-    let pieces : List PieceState = c.args.self.now.pieces in
+    let pieces : List PieceState = c.args.pieces.now in
     let index : ℕ = c.loop-piece.piece-index in
     let inside : index < length pieces = search rules in
     let is : c.piece-item.result ≡ get_or pieces index c.piece-item.result = search rules in
@@ -31,7 +31,7 @@ loop-piece-preserved g c =
 
 pub returns-in_err-fetch-clause-asked_front : goal.returns-in_err-fetch-clause-asked_front
 returns-in_err-fetch-clause-asked_front g c =
-    let pieces : List PieceState = c.args.self.now.pieces in
+    let pieces : List PieceState = c.args.pieces.now in
     let index : ℕ = c.loop-piece.piece-index in
     let inside : index < length pieces = search rules in
     let is : c.piece-item.result ≡ get_or pieces index c.piece-item.result = search rules in
@@ -42,13 +42,13 @@ returns-in_err-fetch-clause-asked_front g c =
 
 pub returns-clause-asked : goal.returns-clause-asked
 returns-clause-asked g c =
-    let pieces : List PieceState = c.args.self.now.pieces in
+    let pieces : List PieceState = c.args.pieces.now in
     let past : length pieces ≤ c.loop-piece.piece-index = search rules in
     subst (λ (l : List PieceState). AreAsked l (g.S.Store.gets c.args.store.now) (g.S.Store.gets c.loop-piece.store))
     (take_all c.loop-piece.piece-index pieces past) c.loop-piece.invariant.asked
 
 pub returns-clause-one : goal.returns-clause-one
 returns-clause-one g c = λ tells bytes given.
-    let past : length c.args.self.now.pieces ≤ c.loop-piece.piece-index = search rules in
-    no_other c.args.self.now.pieces c.loop-piece.piece-index c.args.self.now.bytes c.loop-piece.buf bytes past
+    let past : length c.args.pieces.now ≤ c.loop-piece.piece-index = search rules in
+    no_other c.args.pieces.now c.loop-piece.piece-index c.args.buf.now c.loop-piece.buf bytes past
     (c.loop-piece.invariant.told tells) c.loop-piece.invariant.gives given
