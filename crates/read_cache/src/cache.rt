@@ -34,7 +34,7 @@ struct Due {
 /// A cache, in memory, of blocks of the objects of a store. A block has 64 KiB; the last one of an object may
 /// have fewer.
 ///
-/// A read that is longer than a block goes to the store, and so does one that touches a block for the first
+/// A read that is as long as a block goes to the store, and so does one that touches a block for the first
 /// time: they ask for just their bytes. A block is fetched, whole, where a read goes on in order, at the byte
 /// where the last one of the same object ended, and where it is touched again soon. Then it is kept, until
 /// it is the one whose last use is longest ago and its memory is wanted.
@@ -97,7 +97,7 @@ impl<R: Receipt> ReadCache<R> {
             return store.get(receipt, from, buf);
         }
         let goes_on = self.goes_on(receipt, from, buf.len());
-        if buf.len() as u64 > BLOCK_BYTES {
+        if buf.len() as u64 >= BLOCK_BYTES {
             return store.get(receipt, from, buf);
         }
         self.read_short(receipt, from, goes_on, buf, store)

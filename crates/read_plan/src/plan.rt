@@ -50,13 +50,6 @@ impl<R: Receipt> Plan<R> {
         self.history_length
     }
 
-    /// How many bytes the read has.
-    pub fn len(&self) -> usize
-        ensures { result ≡ length self.now.bytes }
-    {
-        self.bytes.len()
-    }
-
     /// The numbers of the objects that it takes sectors from, in ascending order, each once.
     pub fn objects(&self) -> &[u64]
         ensures objects { result.now ≡ self.now.objects }

@@ -4,4 +4,4 @@ pub mod HeadLemmas
 pub mod TestLemmas
 pub mod LongLemmas
 pub mod LawLemmas
-pub mod EpochLemmas
+pub mod NumberedLemmas

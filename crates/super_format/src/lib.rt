@@ -1,21 +1,24 @@
-//! The super object of a virtual disk, which says what its volume is, and the epochs of the volume, in the
-//! disk's store.
+//! The super object of a virtual disk, which says what its volume is, the epochs of the volume and the holds
+//! on its checkpoints, in the disk's store.
 //!
-//! Its contract: equal to the grammar, both ways. A super object or an epoch is read exactly where the bytes
-//! are one of the expected volume, a super object is else refused for the first test that it fails, and what
-//! is written is one. It stands on `clone_chain` for ancestors, on `lsvd_base` for limits and the bytes of
-//! objects, on `lsvd_bytes` for numbers, and on the kit's `uuid` and `thiserror`.
+//! Its contract: equal to the grammar, both ways. A super object, an epoch or a hold is read exactly where
+//! the bytes are one of the expected volume, a super object is else refused for the first test that it
+//! fails, and what is written is one. It stands on `clone_chain` for ancestors, on `lsvd_base` for limits and
+//! the bytes of objects, on `lsvd_bytes` for numbers, and on the kit's `uuid` and `thiserror`.
 #![tactic(auto)]
 
 mod ancestors;
 mod epoch;
+mod hold;
 mod laws;
+mod numbered;
 mod reading;
 mod reason;
 mod super_object;
 mod writing;
 
 pub use epoch::{BadEpoch, Epoch};
+pub use hold::{BadHold, Hold};
 pub use laws::{a_value_has_one_spelling, no_spelling_begins_another};
 pub use reading::SuperReadError;
 pub use reason::SuperReason;

@@ -15,7 +15,7 @@ use Rattle.super_format.specs.declared.super_object.Super.{Super}
 use Rattle.super_format.specs.Epoch.{IsEpoch}
 use Rattle.super_format.specs.Super.{IsSuper}
 use Rattle.super_format.specs.Tests.{IsSuperReason}
-use Rattle.super_format.proofs.EpochLemmas.{fields_of_epoch}
+use Rattle.super_format.proofs.NumberedLemmas.{length_of_numbered}
 use Rattle.stopped_volume.specs.Super.{HasSuper}
 use Rattle.super_recovery.specs.declared.reading.Front.{Front}
 use Rattle.super_recovery.specs.Faults.{of_read}
@@ -77,7 +77,7 @@ pub no_epoch_by_length : (front : Front) (uuid : List ℕ) (number : ℕ) (has :
     → (bytes : List ℕ) → IsFrontOf 32 front bytes → IsTrue has ↔ ((epoch : Epoch) × IsEpoch bytes uuid number epoch)
 no_epoch_by_length front uuid number has fails other bytes of = (
   λ yes. absurd (false≢true (sym fails ∙ yes)),
-  λ some. absurd (other (of.len ∙ (fields_of_epoch bytes uuid number some.0 some.1).size)),
+  λ some. absurd (other (of.len ∙ length_of_numbered bytes _ _ _ refl some.1.numbered)),
 )
 
 -- what the store has under a name is one list of bytes

@@ -79,7 +79,7 @@ one_super uuid a b objects is other =
 
 -- the number of an epoch fits
 pub epoch_fits : (bytes uuid : List ℕ) (number : ℕ) (epoch : Epoch) → IsEpoch bytes uuid number epoch → number < 2 ^ 64
-epoch_fits bytes uuid number epoch is = subst (λ n. n < 2 ^ 64) is.number_is is.number_width
+epoch_fits bytes uuid number epoch is = subst (λ n. n < 2 ^ 64) is.number_is is.numbered.number_width
 
 not_past : (uuid : List ℕ) (m n : ℕ) (objects : Objects) → HasNewestEpoch uuid m objects → HasNewestEpoch uuid n objects
     → m < n → ⊥
