@@ -8,9 +8,8 @@ use crate::numbers::Numbers;
 use crate::receipt::PlainReceipt;
 use lsvd_base::{Body, Geometry};
 use lsvd_objstore::Receipt;
-use object_uploads::Job;
 use std::alloc::Global;
-use vol_core::{Event, Reply, Volume};
+use vol_core::{Event, Job, Reply, Volume};
 
 /// The sectors of each write.
 pub const SECTORS: u64 = 8;

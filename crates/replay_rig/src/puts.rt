@@ -6,9 +6,9 @@ ghost use Rattle.replay_rig.specs.Puts.{IsJobTaken};
 ghost use Rattle.replay_rig.specs.Places.{place_of_put, stands_at_place};
 
 use lsvd_base::ObjectBytes;
-use object_uploads::Job;
 use std::alloc::{AllocError, Global};
 use std::marker::Model;
+use vol_core::Job;
 
 /// What is kept of an object under way.
 #[derive(Drop)]

@@ -29,10 +29,9 @@ use lsvd_base::{Body, Geometry, SECTOR_BYTES};
 use lsvd_device::{Fate, StoppedDisk};
 use lsvd_objstore::{MemReceipt, MemStore, Receipt};
 use read_cache::ReadCache;
-use read_plan::Plan;
 use std::alloc::{AllocError, Global};
 use std::marker::Model;
-use vol_core::{Event, Reply, SealRefusal};
+use vol_core::{Event, Plan, Reply, SealRefusal};
 
 // The writes and syncs that a step asks for at most: those of a commit that makes first what was left of
 // another, and those of a record and of the pad before it.

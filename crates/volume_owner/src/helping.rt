@@ -13,9 +13,8 @@ use crate::error::OwnerError;
 use crate::replies::{job_of, seal_of};
 use lsvd_device::Disk;
 use lsvd_objstore::{Receipt, Store};
-use object_uploads::Job;
 use std::alloc::Global;
-use vol_core::{Event, Volume};
+use vol_core::{Event, Job, Volume};
 
 /// Puts the lowest object that waits for its put; where none does, seals the next one. Answers whether there
 /// was one, or were entries for one.

@@ -7,9 +7,7 @@ use crate::error::OwnerError;
 use gc_copier::GcPlan;
 use lsvd_base::Entry;
 use lsvd_objstore::Receipt;
-use object_uploads::Job;
-use read_plan::Plan;
-use vol_core::{EntryRefusal, Reply, SealRefusal};
+use vol_core::{EntryRefusal, Job, Plan, Reply, SealRefusal};
 
 /// What came of one attempt to enter an entry.
 #[derive(Drop)]

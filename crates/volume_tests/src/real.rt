@@ -7,12 +7,10 @@ use crate::step::{Byte, Step};
 use batcher::Full;
 use lsvd_base::{Body, Entry, Geometry};
 use lsvd_objstore::{MemReceipt, MemStore, Receipt, Store};
-use object_uploads::Job;
 use read_cache::ReadCache;
-use read_plan::Plan;
 use std::alloc::Global;
 use test_output::TestError;
-use vol_core::{EntryRefusal, Event, Reply};
+use vol_core::{EntryRefusal, Event, Job, Plan, Reply};
 
 /// The volume of the rows.
 pub const GEOMETRY: Geometry = Geometry {
