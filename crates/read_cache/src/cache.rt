@@ -15,6 +15,9 @@ use std::num::NonZeroUsize;
 // Of how many objects it is known where the last read ended.
 const OBJECTS: usize = 64;
 
+// A read of so many bytes is long enough for a get of its own.
+const LONG_READ: u64 = BLOCK_BYTES / 2;
+
 // Which block of an object this is. Objects of two volumes, or of two kinds, may have one number: a block
 // says itself which object it is of.
 #[derive(Clone, Copy, Debug, PartialEq, Eq, Hash)]
@@ -24,20 +27,32 @@ struct BlockKey {
     start: u64,
 }
 
-// Which of the two blocks of a read are to be kept, or are already.
+// Why a block is to be kept, or is already.
+#[derive(Clone, Copy, PartialEq, Eq)]
+enum Due {
+    // It is not: the store is asked for just the bytes of the read.
+    No,
+    // It was touched a short while ago.
+    Touched,
+    // The read goes on where the last one of the object ended.
+    InOrder,
+}
+
+// The same of the two blocks of a read.
 #[derive(Clone, Copy)]
-struct Due {
-    front: bool,
-    back: bool,
+struct BothDue {
+    front: Due,
+    back: Due,
 }
 
 /// A cache, in memory, of blocks of the objects of a store. A block has 64 KiB; the last one of an object may
 /// have fewer.
 ///
-/// A read that is as long as a block goes to the store, and so does one that touches a block for the first
-/// time: they ask for just their bytes. A block is fetched, whole, where a read goes on in order, at the byte
-/// where the last one of the same object ended, and where it is touched again soon. Then it is kept, until
-/// it is the one whose last use is longest ago and its memory is wanted.
+/// A read of half a block or more goes to the store, and so does one that touches a block for the first time:
+/// they ask for just their bytes. A block is fetched, whole, where a read goes on in order, at the byte where
+/// the last one of the same object ended, and where it is touched again soon. Then it is kept, until its
+/// memory is wanted: by the next block in order, since it was read to its end, or, as the one whose last use
+/// is longest ago, by any other.
 ///
 /// A block is of the object of its receipt, and answers for receipts that are the same. Those of a directory
 /// do not tell objects apart that had one name and one length, so a cache is to go with its mount.
@@ -97,7 +112,7 @@ impl<R: Receipt> ReadCache<R> {
             return store.get(receipt, from, buf);
         }
         let goes_on = self.goes_on(receipt, from, buf.len());
-        if buf.len() as u64 >= BLOCK_BYTES {
+        if buf.len() as u64 >= LONG_READ {
             return store.get(receipt, from, buf);
         }
         self.read_short(receipt, from, goes_on, buf, store)
@@ -132,16 +147,16 @@ impl<R: Receipt> ReadCache<R> {
         ensures count { Counts (is_err result) (S.state store.old).faults (S.state store.new).faults }
     {
         let room = BLOCK_BYTES - from % BLOCK_BYTES;
-        let front = self.is_due(receipt, from, goes_on);
+        let front = self.due(receipt, from, goes_on);
         if buf.len() as u64 <= room {
             return self.read_part(receipt, from, front, buf, store);
         }
         let _size = receipt.len();
-        let back = self.is_due(receipt, from + room, goes_on);
-        if !front && !back {
+        let back = self.due(receipt, from + room, goes_on);
+        if front == Due::No && back == Due::No {
             return store.get(receipt, from, buf);
         }
-        let due = Due { front, back };
+        let due = BothDue { front, back };
         let (front, back) = buf.split_at_mut(room as usize);
         self.read_both(receipt, from, due, front, back, store)
     }
@@ -151,7 +166,7 @@ impl<R: Receipt> ReadCache<R> {
         &mut self,
         receipt: &R,
         from: u64,
-        due: Due,
+        due: BothDue,
         front: &mut [u8],
         back: &mut [u8],
         store: &mut S,
@@ -171,10 +186,17 @@ impl<R: Receipt> ReadCache<R> {
         self.read_part(receipt, next, due.back, back, store)
     }
 
-    // Whether the block with a byte of an object is to be kept, or is already. Notes it where it is not.
-    fn is_due(&mut self, receipt: &R, from: u64, goes_on: bool) -> bool {
+    // Why the block with a byte of an object is to be kept. Notes it where it is touched for the first time.
+    fn due(&mut self, receipt: &R, from: u64, goes_on: bool) -> Due {
+        if goes_on {
+            return Due::InOrder;
+        }
         let key = key_of(receipt, from);
-        goes_on || self.blocks.contains(&key) || self.is_noted(key)
+        if self.blocks.contains(&key) || self.is_noted(key) {
+            Due::Touched
+        } else {
+            Due::No
+        }
     }
 
     // Whether a block was touched not long ago. Notes it.
@@ -188,7 +210,7 @@ impl<R: Receipt> ReadCache<R> {
         &mut self,
         receipt: &R,
         from: u64,
-        is_due: bool,
+        due: Due,
         buf: &mut [u8],
         store: &mut S,
     ) -> Result<(), Failed>
@@ -200,13 +222,13 @@ impl<R: Receipt> ReadCache<R> {
         ensures unchanged { OnlyCounts (S.state store.old) (S.state store.new) }
         ensures count { Counts (is_err result) (S.state store.old).faults (S.state store.new).faults }
     {
-        if !is_due {
+        if due == Due::No {
             return store.get(receipt, from, buf);
         }
         if self.give(receipt, from, buf) {
             return Ok(());
         }
-        let Ok((copy, memory)) = self.prepare(receipt) else {
+        let Ok((copy, memory)) = self.prepare(receipt, from, due) else {
             return store.get(receipt, from, buf);
         };
         let block = Block::fetch(copy, from - from % BLOCK_BYTES, memory, store)?;
@@ -228,13 +250,13 @@ impl<R: Receipt> ReadCache<R> {
         }
     }
 
-    // A copy of the receipt, and the memory, for a block.
-    fn prepare(&mut self, receipt: &R) -> Result<(R, Vec<u8>), AllocError>
+    // A copy of the receipt, and the memory, for the block with a byte of an object.
+    fn prepare(&mut self, receipt: &R, from: u64, due: Due) -> Result<(R, Vec<u8>), AllocError>
         ensures copy { IfOk result (λ both. R.state both.0 ≡ R.state receipt.now) }
         ensures memory { IfOk result (λ both. vec_len both.1 ≡ 65536) }
     {
         let copy = receipt.copy(self.alloc)?;
-        match self.memory() {
+        match self.memory(key_of(receipt, from), due) {
             Ok(memory) => Ok((copy, memory)),
             Err(error) => {
                 drop(copy);
@@ -243,16 +265,30 @@ impl<R: Receipt> ReadCache<R> {
         }
     }
 
-    // The memory for a block: where no more may be kept, that of the one whose last use is longest ago.
-    fn memory(&mut self) -> Result<Vec<u8>, AllocError>
+    // The memory for a block: where no more may be kept, that of one that is let go.
+    fn memory(&mut self, key: BlockKey, due: Due) -> Result<Vec<u8>, AllocError>
         ensures { IfOk result (λ memory. vec_len memory ≡ 65536) }
     {
         if self.blocks.len() >= self.capacity {
-            if let Some((_, block)) = self.blocks.pop_lru() {
+            if let Some(block) = self.let_go(key, due) {
                 return Ok(block.into_memory());
             }
         }
         vec![in self.alloc; 0; BLOCK_BYTES as usize]
+    }
+
+    // Lets a block go for another: for one that is fetched in order the one before it, which was read to its
+    // end and whose memory is near the processor, else the one whose last use is longest ago.
+    fn let_go(&mut self, key: BlockKey, due: Due) -> Option<Block<R>> {
+        if due == Due::InOrder {
+            let start = key.start.saturating_sub(BLOCK_BYTES);
+            let before = BlockKey { start, ..key };
+            if let Some((_, block)) = self.blocks.pop_entry(&before) {
+                return Some(block);
+            }
+        }
+        let (_, block) = self.blocks.pop_lru()?;
+        Some(block)
     }
 
     // Keeps a block, in place of one with its key. Where memory for its place runs out it is let go.

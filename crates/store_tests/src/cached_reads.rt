@@ -27,29 +27,56 @@ pub fn tell_all(rt: &HostRuntime) -> Result<(), TestError> {
     told
 }
 
+// Reads, each so many bytes after the one before.
+#[derive(Clone, Copy)]
+struct Run {
+    first: u64,
+    step: u64,
+    reads: u64,
+}
+
+fn reads_from(first: u64, step: u64, reads: u64) -> Run {
+    Run { first, step, reads }
+}
+
 fn tell_reads(
     rt: &HostRuntime,
     store: &mut CountedStore,
     receipt: &MemReceipt,
 ) -> Result<(), TestError> {
-    tell_gets(rt, "64 in order", store, receipt, 64, READ_BYTES)?;
-    tell_gets(rt, "32, every second one", store, receipt, 32, 8_192)?;
-    tell_gets(rt, "one of each block", store, receipt, 4, 65_536)?;
-    tell_gets(rt, "16 of one block", store, receipt, 16, 0)
+    let in_order = [reads_from(0, READ_BYTES, 64)];
+    let every_second = [reads_from(0, 8_192, 32)];
+    let of_each = [reads_from(0, 65_536, 4)];
+    let of_one = [reads_from(0, 0, 16)];
+    let around = [
+        reads_from(0, 0, 2),
+        reads_from(65_536, READ_BYTES, 48),
+        reads_from(0, 0, 1),
+    ];
+    tell_gets(rt, "64 in order", store, receipt, &in_order)?;
+    tell_gets(rt, "32, every second one", store, receipt, &every_second)?;
+    tell_gets(rt, "one of each block", store, receipt, &of_each)?;
+    tell_gets(rt, "16 of one block", store, receipt, &of_one)?;
+    tell_gets(
+        rt,
+        "2 of one block, 48 of the others in order, 1 of it",
+        store,
+        receipt,
+        &around,
+    )
 }
 
-// Writes how many gets some reads take, each so many bytes after the one before.
+// Writes how many gets some reads take.
 fn tell_gets(
     rt: &HostRuntime,
     what: &str,
     store: &mut CountedStore,
     receipt: &MemReceipt,
-    reads: u64,
-    step: u64,
+    runs: &[Run],
 ) -> Result<(), TestError> {
     let mut cache = ReadCache::new(rt.alloc(), 2)?;
     let before = store.gets();
-    let read = read_all(&mut cache, store, receipt, reads, step);
+    let read = read_all(&mut cache, store, receipt, runs);
     drop(cache);
     read?;
     tell(rt, what, &store.gets().saturating_sub(before))
@@ -59,11 +86,13 @@ fn read_all(
     cache: &mut ReadCache<MemReceipt>,
     store: &mut CountedStore,
     receipt: &MemReceipt,
-    reads: u64,
-    step: u64,
+    runs: &[Run],
 ) -> Result<(), TestError> {
-    for read in 0..reads {
-        read_one(cache, store, receipt, read.saturating_mul(step))?;
+    for run in runs {
+        for read in 0..run.reads {
+            let from = run.first.saturating_add(read.saturating_mul(run.step));
+            read_one(cache, store, receipt, from)?;
+        }
     }
     Ok(())
 }

@@ -2,8 +2,8 @@ use Rattle.std.proofs.Common.{length, arith}
 use Rattle.read_cache.proofs.AskLemmas.{adds_one}
 use Rattle.read_cache.proofs.cache.ReadCache.read_part.Goals as goal
 
-pub returns-then-not-is_due-clause-asked : goal.returns-then-not-is_due-clause-asked
-returns-then-not-is_due-clause-asked g c =
+pub returns-then-eq-clause-asked : goal.returns-then-eq-clause-asked
+returns-then-eq-clause-asked g c =
     let block = c.requires.block in
     adds_one (g.R.Receipt.state c.args.receipt.now) 65536 c.args.from (length c.args.buf.now) (g.S.Store.gets c.args.store.now)
     (g.S.Store.gets c.get.new.self) c.requires.object (omega (arith, block)) c.get.ensures.asked

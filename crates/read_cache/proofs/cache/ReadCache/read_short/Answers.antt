@@ -2,8 +2,8 @@ use Rattle.std.proofs.Common.{length, arith}
 use Rattle.read_cache.proofs.AskLemmas.{adds_one, adds_fewer}
 use Rattle.read_cache.proofs.cache.ReadCache.read_short.Goals as goal
 
-pub returns-then-not-back-clause-asked : goal.returns-then-not-back-clause-asked
-returns-then-not-back-clause-asked g c =
+pub returns-then-eq-2-clause-asked : goal.returns-then-eq-2-clause-asked
+returns-then-eq-2-clause-asked g c =
     let receipt = g.R.Receipt.state c.args.receipt.now in
     let after = g.S.Store.gets c.get.new.self in
     adds_fewer receipt 65536 65536 1 2 (g.S.Store.gets c.args.store.now) after (omega arith) (omega arith)
