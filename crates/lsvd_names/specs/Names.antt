@@ -1,7 +1,7 @@
 -- Contract: the names of a volume's objects.
 use Rattle.std.specs.Prelude.{ℕ, List}
 use Rattle.lsvd_names.specs.declared.name.ObjName.{ObjName}
-use Rattle.lsvd_names.specs.declared.name.NameKind.TheVariants.{Super, Epoch, Object}
+use Rattle.lsvd_names.specs.declared.name.NameKind.TheVariants.{Super, Epoch, Object, Hold}
 
 -- the name of the super object of a volume
 abbrev pub super_name : (uuid : List ℕ) → ObjName
@@ -14,3 +14,7 @@ epoch_name uuid number = record { uuid = uuid; kind = Epoch; number = number }
 -- the name of the object of a number of a volume's stream
 abbrev pub numbered_name : (uuid : List ℕ) (number : ℕ) → ObjName
 numbered_name uuid number = record { uuid = uuid; kind = Object; number = number }
+
+-- the name of the hold on the checkpoint of a number
+abbrev pub hold_name : (uuid : List ℕ) (number : ℕ) → ObjName
+hold_name uuid number = record { uuid = uuid; kind = Hold; number = number }

@@ -1,6 +1,6 @@
 ghost use Rattle.std.specs.Prelude.{◌≡◌, ℕ, List, ◌++◌, [], IfOk, IfSome, IfNone};
 ghost use Rattle.std.specs.String.{string_bytes};
-ghost use Rattle.lsvd_names.specs.Names.{epoch_name, numbered_name, super_name};
+ghost use Rattle.lsvd_names.specs.Names.{epoch_name, hold_name, numbered_name, super_name};
 ghost use Rattle.lsvd_names.specs.Spelling.{IsName, IsNumbered, MayHaveNumber, ending, spelling, word};
 
 use crate::digits::number_of;
@@ -68,6 +68,19 @@ impl ObjName {
         ObjName {
             uuid,
             kind: NameKind::Object,
+            number,
+        }
+    }
+
+    /// The name of the hold on the checkpoint of a number of a volume.
+    pub fn hold(uuid: Uuid, number: u64) -> ObjName
+        ensures is { result ≡ hold_name uuid number }
+        ensures named { IsName result }
+    {
+        a_uuid_has_sixteen_bytes(uuid);
+        ObjName {
+            uuid,
+            kind: NameKind::Hold,
             number,
         }
     }

@@ -94,6 +94,13 @@ pub fn add_epoch(bytes: &mut Vec<u8>, number: u64) -> Result<(), AllocError> {
     bytes.extend_from_slice(&number.to_be_bytes())
 }
 
+/// Adds the bytes of a hold on a checkpoint of the volume.
+pub fn add_hold(bytes: &mut Vec<u8>, number: u64) -> Result<(), AllocError> {
+    bytes.extend_from_slice(b"LSVDHLD1")?;
+    bytes.extend_from_slice(&UUID)?;
+    bytes.extend_from_slice(&number.to_be_bytes())
+}
+
 /// Adds the bytes of a body of a commit, with the numbers from the epoch on, and its gate, which is open.
 pub fn add_commit(bytes: &mut Vec<u8>, uuid: &[u8; 16], numbers: &[u64]) -> Result<(), AllocError> {
     bytes.extend_from_slice(b"LSVDCMT1")?;

@@ -10,8 +10,8 @@ use std::alloc::Global;
 use test_output::TestError;
 use vol_mount::MountError;
 
-// An object past the first missing number, so that a mount removes one.
-const PAST: &[Change] = &[Change::Object(4, Stored::Data(9, 10))];
+// A hold, which a mount reads, and an object past the first missing number, so that a mount removes one.
+const PAST: &[Change] = &[Change::Hold(1, 1), Change::Object(4, Stored::Data(9, 10))];
 
 // More calls than a mount makes.
 const MOST: u64 = 100;

@@ -26,7 +26,7 @@ use test_output::{TestError, head};
 pub fn tell_all(rt: &HostRuntime) -> Result<(), TestError> {
     head(rt, "# A store's objects, mounted without the cache")?;
     rows::tell_all(rt, &rows::OBJECTS)?;
-    head(rt, "# Its super object and its epochs")?;
+    head(rt, "# Its super object, its epochs and its holds")?;
     rows::tell_all(rt, &rows::VOLUMES)?;
     head(rt, "# A device, mounted as the cache")?;
     rows::tell_all(rt, &rows::CACHES)?;

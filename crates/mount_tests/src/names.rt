@@ -25,6 +25,13 @@ pub fn epoch_name(number: u64) -> ObjName
     ObjName::epoch(Uuid::from_bytes(UUID), number)
 }
 
+/// The name of a hold on a checkpoint of the volume.
+pub fn hold_name(number: u64) -> ObjName
+    ensures { IsName result }
+{
+    ObjName::hold(Uuid::from_bytes(UUID), number)
+}
+
 /// The name of a numbered object of the volume.
 pub fn object_name(number: u64) -> ObjName
     ensures { IsName result }

@@ -3,7 +3,7 @@ use crate::answer::Answer;
 use crate::bytes::OTHER;
 use crate::cache::{Cache, LEFT, SHORT, SIZE, device};
 use crate::scene::{Mount, mounted};
-use crate::store::Change::{Clone, Epoch, NoEpoch, NoObject, NoSuper, Object, OtherVolume};
+use crate::store::Change::{Clone, Epoch, Hold, NoEpoch, NoObject, NoSuper, Object, OtherVolume};
 use crate::store::Stored::{Checkpoint, Copy, Cut, Data, Foreign, Mapping, Misnamed};
 use crate::store::{Change, change_all, put_volume};
 use crate::telling::tell_found;
@@ -190,8 +190,8 @@ pub static OBJECTS: [Row; 26] = [
     },
 ];
 
-/// Super objects and epochs.
-pub static VOLUMES: [Row; 14] = [
+/// Super objects, epochs and holds.
+pub static VOLUMES: [Row; 18] = [
     Row {
         what: "no super object",
         changes: &[NoSuper],
@@ -255,6 +255,26 @@ pub static VOLUMES: [Row; 14] = [
     Row {
         what: "the last epoch of all",
         changes: &[Epoch(LAST, LAST)],
+        ..LOST
+    },
+    Row {
+        what: "a hold on a checkpoint, and one on none",
+        changes: &[Hold(1, 1), Hold(LAST, LAST)],
+        ..LOST
+    },
+    Row {
+        what: "a hold that says another number",
+        changes: &[Hold(1, 2)],
+        ..LOST
+    },
+    Row {
+        what: "two of three that say another number",
+        changes: &[Hold(9, 0), Hold(2, 3), Hold(1, 1)],
+        ..LOST
+    },
+    Row {
+        what: "a hold and a newest epoch that say another number",
+        changes: &[Hold(1, 2), Epoch(3, 2)],
         ..LOST
     },
     Row {

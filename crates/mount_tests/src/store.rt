@@ -1,8 +1,8 @@
 // Stores that are not as the program leaves them.
 ghost use Rattle.lsvd_names.specs.Spelling.{IsName};
 
-use crate::bytes::{CLONE, Content, OTHER, Object, SUPER, UUID, add_epoch, add_object};
-use crate::names::{epoch_name, object_name, other_super_name, super_name};
+use crate::bytes::{CLONE, Content, OTHER, Object, SUPER, UUID, add_epoch, add_hold, add_object};
+use crate::names::{epoch_name, hold_name, object_name, other_super_name, super_name};
 use lsvd_base::ObjectBytes;
 use lsvd_names::ObjName;
 use lsvd_objstore::{MemStore, Store};
@@ -37,6 +37,8 @@ pub enum Change {
     /// Puts an epoch under a number, whose bytes say the second one.
     Epoch(u64, u64),
     NoEpoch(u64),
+    /// Puts a hold under a number, whose bytes say the second one.
+    Hold(u64, u64),
     Object(u64, Stored),
     NoObject(u64),
     /// Puts a super object for another volume, which is bad for that one.
@@ -75,6 +77,7 @@ fn make(alloc: Global, store: &mut MemStore, change: Change) -> Result<(), TestE
         Change::NoSuper => remove(alloc, store, &super_name()),
         Change::Epoch(number, said) => put(alloc, store, &epoch_name(number), epoch(alloc, said)?),
         Change::NoEpoch(number) => remove(alloc, store, &epoch_name(number)),
+        Change::Hold(number, said) => put(alloc, store, &hold_name(number), hold(alloc, said)?),
         Change::Object(number, stored) => {
             put(
                 alloc,
@@ -118,6 +121,12 @@ fn clone_with(alloc: Global, at: usize, byte: u8) -> Result<Vec<u8>, AllocError>
 fn epoch(alloc: Global, number: u64) -> Result<Vec<u8>, AllocError> {
     let mut bytes = Vec::new(alloc);
     add_epoch(&mut bytes, number)?;
+    Ok(bytes)
+}
+
+fn hold(alloc: Global, number: u64) -> Result<Vec<u8>, AllocError> {
+    let mut bytes = Vec::new(alloc);
+    add_hold(&mut bytes, number)?;
     Ok(bytes)
 }
 

@@ -11,10 +11,13 @@ use uuid::Uuid;
 use vol_mount::MountError;
 use vol_recover::CreateError;
 
-const REFUSALS: [Refusal; 13] = [
+const REFUSALS: [Refusal; 14] = [
     Refusal::NoVolume,
     Refusal::BadSuper {
         reason: BadSuper::BadEpoch { number: 4 },
+    },
+    Refusal::BadSuper {
+        reason: BadSuper::BadHold { number: 5 },
     },
     Refusal::BadSuper {
         reason: BadSuper::NoEpoch,

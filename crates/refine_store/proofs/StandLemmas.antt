@@ -81,6 +81,7 @@ has_with_log uuid geometry epoch objects log has = record {
   alone = has.alone;
   epochs = has.epochs;
   whole = has.whole;
+  holds = has.holds;
 }
 
 -- what a mount makes of the objects that have landed, with its first N entries, a log and a cache

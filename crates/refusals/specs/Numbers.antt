@@ -10,11 +10,12 @@ use Rattle.refusals.specs.declared.refusal.Refusal.TheVariants as reasons
 use Rattle.refusals.specs.declared.refusal.Values.{Values}
 use Rattle.refusals.specs.declared.refusal.Values.TheVariants.{Nothing, One, Two, Volume}
 
--- the number of a reason for which a super object or an epoch is refused, in the order of the tests
+-- the number of a reason for which a super object, an epoch or a hold is refused, in the order of the tests
 abbrev pub super_code : BadSuper → ℕ
 super_code (supers.Super reason) = reason_code reason
 super_code supers.NoEpoch = 7
 super_code (supers.BadEpoch number) = 8
+super_code (supers.BadHold number) = 8
 
 -- the number of a refusal
 abbrev pub refusal_number : Refusal → ℕ

@@ -16,17 +16,20 @@ pub enum BadSuper {
     /// The epoch with the greatest number, which is this one, has bytes that are no epoch of that number.
     #[error("bad epoch {number}")]
     BadEpoch { number: u64 },
+    /// The hold of this number, which is the least such number, has bytes that are no hold of that number.
+    #[error("bad hold {number}")]
+    BadHold { number: u64 },
 }
 
 impl BadSuper {
-    /// Its number: that of the reason, 1 to 6, for `Super`, 7 for `NoEpoch`, 8 for `BadEpoch`.
+    /// Its number: that of the reason, 1 to 6, for `Super`, 7 for `NoEpoch`, 8 for `BadEpoch` and `BadHold`.
     pub fn code(self) -> u32
         ensures { result ≡ super_code self }
     {
         match self {
             BadSuper::Super(reason) => reason.code(),
             BadSuper::NoEpoch => 7,
-            BadSuper::BadEpoch { .. } => 8,
+            BadSuper::BadEpoch { .. } | BadSuper::BadHold { .. } => 8,
         }
     }
 }

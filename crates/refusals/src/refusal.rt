@@ -13,7 +13,7 @@ pub enum Refusal {
     /// 1: the store has no super object of the volume.
     #[error("the store has no such volume")]
     NoVolume,
-    /// 2: the volume's super object, or its newest epoch, is not of the grammar, or there is no epoch.
+    /// 2: the volume's super object, its newest epoch or a hold is not of the grammar, or there is no epoch.
     #[error("bad volume: {reason}")]
     BadSuper { reason: BadSuper },
     /// 3: no object of the volume is a checkpoint. Its objects have numbers from 1 on.

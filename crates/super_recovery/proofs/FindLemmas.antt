@@ -6,11 +6,10 @@ use Rattle.std.specs.Option.{IsSome}
 use Rattle.std.specs.List.{Contains}
 use Rattle.std.proofs.lemmas.List.Elements.{Contains-append_left, Contains-push, Contains-push_cases}
 use Rattle.lsvd_base.specs.declared.geometry.Geometry.{Geometry}
-use Rattle.lsvd_names.specs.declared.name.NameKind.{NameKind}
 use Rattle.lsvd_names.specs.declared.name.NameKind.TheVariants as kinds
 use Rattle.lsvd_names.specs.declared.name.ObjName.{ObjName}
 use Rattle.lsvd_names.specs.Spelling.{IsUuid, IsName}
-use Rattle.lsvd_names.specs.Names.{super_name, epoch_name}
+use Rattle.lsvd_names.specs.Names.{super_name, epoch_name, hold_name}
 use Rattle.lsvd_objstore.specs.Objects.{Objects, found, Lists}
 use Rattle.super_format.specs.declared.super_object.Super.{Super}
 use Rattle.super_format.specs.Super.{IsSuper}
@@ -24,8 +23,10 @@ use Rattle.super_recovery.specs.Fronts.{IsFrontReadOf}
 use Rattle.super_recovery.specs.Found.{IsGreatestEpoch, IsGreatestIn, HasEpoch, HasNoEpoch, HasBadEpoch}
 use Rattle.super_recovery.specs.Found.{IsWhyNoEpoch}
 use Rattle.super_recovery.specs.Found.{IsWhyVolumeRefused, IsFound, IsVolumeRefused}
+use Rattle.super_recovery.specs.Holds.{AreHolds, IsWhyNoHolds}
 use Rattle.super_recovery.proofs.LawLemmas.{one_super, one_newest, sizes_of_super, epoch_fits}
-use Rattle.super_recovery.proofs.Results.{told_so, told_both}
+use Rattle.super_recovery.proofs.NameLemmas.{named_so}
+use Rattle.super_recovery.proofs.Results.{told_so, told_both, told_three}
 
 -- ---- names
 
@@ -90,13 +91,6 @@ none_unless (Some bytes) not = absurd (not refl)
 epoch_named : (uuid : List ℕ) (number : ℕ) → IsUuid uuid → number < 2 ^ 64 → IsName (epoch_name uuid number)
 epoch_named uuid number is fits = record { uuid = is; number = tt; fits = fits }
 
-named_so : (uuid : List ℕ) (name : ObjName) (number : ℕ) → name.uuid ≡ uuid → name.kind ≡ kinds.Epoch → name.number ≡ number
-    → name ≡ epoch_name uuid number
-named_so uuid name number same kind is =
-    ap (λ (u : List ℕ). let other : ObjName = record { uuid = u; kind = name.kind; number = name.number } in other) same
-    ∙ ap (λ (k : NameKind). let other : ObjName = record { uuid = uuid; kind = k; number = name.number } in other) kind
-    ∙ ap (λ (n : ℕ). epoch_name uuid n) is
-
 module _ (uuid : List ℕ) (names : List ObjName) (is_uuid : IsUuid uuid) (objects : Objects)
     (lists : Lists uuid objects names) where
   -- an epoch that the store has is listed
@@ -117,7 +111,8 @@ module _ (uuid : List ℕ) (names : List ObjName) (is_uuid : IsUuid uuid) (objec
   is_present : (number : ℕ) → IsGreatestEpoch names number → IsSome (found objects (epoch_name uuid number))
   is_present number is =
       let present = lists.present is.name is.listed in
-      subst (λ name. IsSome (found objects name)) (named_so uuid is.name number present.1 is.of_epoch is.number_is) present.2
+      subst (λ name. IsSome (found objects name))
+      (named_so is.name (epoch_name uuid number) present.1 is.of_epoch is.number_is) present.2
 
   pub has_bad_epoch : (number : ℕ) → IsGreatestEpoch names number → (HasEpoch uuid number objects → ⊥)
       → HasBadEpoch uuid number objects
@@ -137,11 +132,12 @@ module _ (uuid : List ℕ) (names : List ObjName) (is_uuid : IsUuid uuid) (objec
 -- ---- what is found
 
 pub is_found : (uuid : List ℕ) (objects : Objects) (it : FoundVolume) → HasSuper uuid it.volume objects
-    → HasNewestEpoch uuid it.epoch objects
+    → HasNewestEpoch uuid it.epoch objects → AreHolds uuid it.holds.items objects
     → IsFound uuid objects it
-is_found uuid objects it says newest = record {
+is_found uuid objects it says newest holds = record {
   says = says;
   newest = newest;
+  holds = holds;
   only = λ geometry epoch has.
       let same = one_super uuid has.volume it.volume objects has.says says in
       record {
@@ -159,8 +155,21 @@ why_refused uuid objects volume errors.NoVolume says why = absurd why
 why_refused uuid objects volume (errors.BadSuper (reasons.Super reason)) says why = absurd why
 why_refused uuid objects volume (errors.BadSuper reasons.NoEpoch) says why = ((volume, says), why)
 why_refused uuid objects volume (errors.BadSuper (reasons.BadEpoch number)) says why = ((volume, says), why)
+why_refused uuid objects volume (errors.BadSuper (reasons.BadHold number)) says why = absurd why
 why_refused uuid objects volume errors.StoreFault says why = tt
 why_refused uuid objects volume errors.OutOfMemory says why = tt
+
+-- for a hold, after its super object and its newest epoch were read
+why_held : (uuid : List ℕ) (objects : Objects) (volume : Super) (epoch : ℕ) (error : SuperError) → HasSuper uuid volume objects
+    → HasNewestEpoch uuid epoch objects → IsWhyNoHolds uuid objects error → IsWhyVolumeRefused uuid objects error
+why_held uuid objects volume epoch errors.NoVolume says newest why = absurd why
+why_held uuid objects volume epoch (errors.BadSuper (reasons.Super reason)) says newest why = absurd why
+why_held uuid objects volume epoch (errors.BadSuper reasons.NoEpoch) says newest why = absurd why
+why_held uuid objects volume epoch (errors.BadSuper (reasons.BadEpoch number)) says newest why = absurd why
+why_held uuid objects volume epoch (errors.BadSuper (reasons.BadHold number)) says newest why =
+    ((volume, says), (epoch, newest), why)
+why_held uuid objects volume epoch errors.StoreFault says newest why = tt
+why_held uuid objects volume epoch errors.OutOfMemory says newest why = tt
 
 -- a store has one object under a name
 one_of : (held : Option (List ℕ)) (bytes : List ℕ) → held ≡ Some bytes → held ≡ None → ⊥
@@ -189,6 +198,10 @@ no_volume uuid objects geometry epoch (errors.BadSuper (reasons.BadEpoch number)
     let held = bytes_of (found objects (epoch_name uuid number)) why.1.present in
     let whole = has.whole number held.0 held.1 in
     why.1.bad (record { bytes = held.0; present = held.1; epoch = whole.0; is_epoch = whole.1 })
+no_volume uuid objects geometry epoch (errors.BadSuper (reasons.BadHold number)) why has =
+    let held = bytes_of (found objects (hold_name uuid number)) why.2.present in
+    let good = has.holds number held.0 held.1 in
+    why.2.bad (record { bytes = held.0; present = held.1; hold = good.0; is_hold = good.1 })
 no_volume uuid objects geometry epoch errors.StoreFault why has = tt
 no_volume uuid objects geometry epoch errors.OutOfMemory why has = tt
 
@@ -224,8 +237,8 @@ module _ (told : Option Objects) (uuid : List ℕ) where
           (either.0 holds)) lists tells
 
   pub told_found : (it : FoundVolume) → IfSome told (HasSuper uuid it.volume) → IfSome told (HasNewestEpoch uuid it.epoch)
-      → IfSome told (λ objects. IsFound uuid objects it)
-  told_found it = told_both _ _ _ told (λ objects. is_found uuid objects it)
+      → IfSome told (AreHolds uuid it.holds.items) → IfSome told (λ objects. IsFound uuid objects it)
+  told_found it = told_three _ _ _ _ told (λ objects. is_found uuid objects it)
 
   pub told_refused : (error : SuperError) → IfSome told (λ objects. IsWhyVolumeRefused uuid objects error)
       → IfSome told (λ objects. IsVolumeRefused uuid objects error)
@@ -236,6 +249,13 @@ module _ (told : Option Objects) (uuid : List ℕ) where
       → IfSome told (λ objects. IsVolumeRefused uuid objects error)
   told_why volume error = told_both _ _ _ told
       (λ objects says why. is_refused uuid objects error (why_refused uuid objects volume error says why))
+
+  pub told_held : (volume : Super) (epoch : ℕ) (error : SuperError) → IfSome told (HasSuper uuid volume)
+      → IfSome told (HasNewestEpoch uuid epoch) → IfSome told (λ objects. IsWhyNoHolds uuid objects error)
+      → IfSome told (λ objects. IsVolumeRefused uuid objects error)
+  told_held volume epoch error =
+      told_three _ _ _ _ told
+      (λ objects says newest why. is_refused uuid objects error (why_held uuid objects volume epoch error says newest why))
 
 -- where no object has the name of the super object, there is no volume
 pub told_absent : (told : Option Objects) (uuid : List ℕ) (name : ObjName) (most : ℕ) → name ≡ super_name uuid

@@ -1,9 +1,10 @@
--- What a store says of a volume depends on its super object and its epochs alone, and is one thing.
+-- What a store says of a volume depends on its super object, its epochs and its holds alone, and is one thing.
 use Rattle.std.proofs.Common.{◌≡◌, ℕ, ◌+◌, ◌^◌, ◌<◌, inl, inr, Some, None, List, sym, ◌∙◌, ap, subst, arith}
+use Rattle.std.specs.Option.{IsSome}
 use Rattle.std.proofs.lemmas.Bool.{cases_eq, cases_order}
 use Rattle.lsvd_base.specs.declared.geometry.Geometry.{Geometry}
 use Rattle.lsvd_names.specs.declared.name.ObjName.{ObjName}
-use Rattle.lsvd_names.specs.Names.{super_name, epoch_name}
+use Rattle.lsvd_names.specs.Names.{super_name, epoch_name, hold_name}
 use Rattle.lsvd_objstore.specs.Objects.{Objects, found, KeepsOthers}
 use Rattle.super_format.specs.declared.epoch.Epoch.{Epoch}
 use Rattle.super_format.specs.declared.super_object.Super.{Super}
@@ -12,6 +13,7 @@ use Rattle.super_format.specs.Super.{geometry_with}
 use Rattle.super_format.proofs.LawLemmas.{supers_have_one_spelling}
 use Rattle.stopped_volume.specs.Super.{HasSuper, HasNewestEpoch, HasVolume}
 use Rattle.super_recovery.specs.Found.{HasEpoch}
+use Rattle.super_recovery.specs.Holds.{HasHold, AreHolds}
 use Rattle.super_recovery.specs.Laws.{KeepsVolume, SaysTheSame, IsOtherKind, IsOtherName, ChangesOnly, OthersKeepVolume}
 use Rattle.super_recovery.specs.Laws.{HasOneSuper}
 use Rattle.super_recovery.specs.Laws.{HasOneNewest, HasOneVolume, NextEpochIsBegun, VolumeIsCreated}
@@ -31,6 +33,22 @@ module _ (uuid : List ℕ) (old new : Objects) (keeps : KeepsVolume uuid old new
     newest = λ other past fits. keeps.of_epochs other ∙ is.newest other past fits;
   }
 
+  same_hold : (number : ℕ) → HasHold uuid number old → HasHold uuid number new
+  same_hold number is =
+      record { bytes = is.bytes; present = keeps.of_holds number ∙ is.present; hold = is.hold; is_hold = is.is_hold }
+
+  same_holds : (numbers : List ℕ) → AreHolds uuid numbers old → AreHolds uuid numbers new
+  same_holds numbers are = record {
+    ascending = are.ascending;
+    same = λ number fits.
+        let either = are.same number fits in
+        let kept = keeps.of_holds number in (
+          λ has. subst IsSome (sym kept) (either.0 has),
+          λ some. either.1 (subst IsSome kept some),
+        );
+    each = λ number has. same_hold number (are.each number has);
+  }
+
   same_volume : (geometry : Geometry) (epoch : ℕ) → HasVolume uuid geometry epoch old → HasVolume uuid geometry epoch new
   same_volume geometry epoch is = record {
     volume = is.volume;
@@ -39,13 +57,18 @@ module _ (uuid : List ℕ) (old new : Objects) (keeps : KeepsVolume uuid old new
     alone = is.alone;
     epochs = same_newest epoch is.epochs;
     whole = λ number bytes present. is.whole number bytes (sym (keeps.of_epochs number) ∙ present);
+    holds = λ number bytes present. is.holds number bytes (sym (keeps.of_holds number) ∙ present);
   }
 
 pub says_the_same : SaysTheSame
-says_the_same uuid old new keeps =
-    record { says = same_super uuid old new keeps; newest = same_newest uuid old new keeps; has = same_volume uuid old new keeps }
+says_the_same uuid old new keeps = record {
+  says = same_super uuid old new keeps;
+  newest = same_newest uuid old new keeps;
+  holds = same_holds uuid old new keeps;
+  has = same_volume uuid old new keeps;
+}
 
--- a name of another kind or of another volume is none of the super object, and none of an epoch
+-- a name of another kind or of another volume is none of the super object, none of an epoch, and none of a hold
 no_super : (uuid : List ℕ) (name : ObjName) → IsOtherName uuid name → super_name uuid ≡ name → ⊥
 no_super uuid name (inl kind) same = subst IsOtherKind (sym (ap (λ (n : ObjName). n.kind) same)) kind
 no_super uuid name (inr other) same = other (sym (ap (λ (n : ObjName). n.uuid) same))
@@ -53,6 +76,10 @@ no_super uuid name (inr other) same = other (sym (ap (λ (n : ObjName). n.uuid) 
 no_epoch : (uuid : List ℕ) (number : ℕ) (name : ObjName) → IsOtherName uuid name → epoch_name uuid number ≡ name → ⊥
 no_epoch uuid number name (inl kind) same = subst IsOtherKind (sym (ap (λ (n : ObjName). n.kind) same)) kind
 no_epoch uuid number name (inr other) same = other (sym (ap (λ (n : ObjName). n.uuid) same))
+
+no_hold : (uuid : List ℕ) (number : ℕ) (name : ObjName) → IsOtherName uuid name → hold_name uuid number ≡ name → ⊥
+no_hold uuid number name (inl kind) same = subst IsOtherKind (sym (ap (λ (n : ObjName). n.kind) same)) kind
+no_hold uuid number name (inr other) same = other (sym (ap (λ (n : ObjName). n.uuid) same))
 
 keeps_others : (name : ObjName) (old new : Objects) → ChangesOnly name old new → KeepsOthers name old new
 keeps_others name old new (inl others) = others
@@ -67,6 +94,7 @@ others_keep_volume uuid name old new other changes =
     record {
       of_super = others (super_name uuid) (no_super uuid name other);
       of_epochs = λ number. others (epoch_name uuid number) (no_epoch uuid number name other);
+      of_holds = λ number. others (hold_name uuid number) (no_hold uuid number name other);
     }
 
 -- ---- one volume
@@ -114,6 +142,9 @@ one_volume uuid a b m n objects is other =
 apart_kind : (uuid : List ℕ) (number : ℕ) → super_name uuid ≡ epoch_name uuid number → ⊥
 apart_kind uuid number same = let kind = ap (λ (n : ObjName). n.kind) same in cc
 
+apart_hold : (uuid : List ℕ) (m n : ℕ) → hold_name uuid m ≡ epoch_name uuid n → ⊥
+apart_hold uuid m n same = let kind = ap (λ (n : ObjName). n.kind) same in cc
+
 apart_number : (uuid : List ℕ) (m n : ℕ) → (m ≡ n → ⊥) → epoch_name uuid m ≡ epoch_name uuid n → ⊥
 apart_number uuid m n apart same = apart (ap (λ (name : ObjName). name.number) same)
 
@@ -157,10 +188,12 @@ next_epoch_is_begun uuid geometry epoch old new is puts =
       whole =
           whole_with uuid (epoch + 1) new puts.has (λ number bytes apart present. is.whole number bytes (sym (others number apart)
           ∙ present));
+      holds = λ number bytes present.
+          is.holds number bytes (sym (puts.others (hold_name uuid number) (apart_hold uuid number (epoch + 1))) ∙ present);
     }
 
 pub volume_is_created : VolumeIsCreated
-volume_is_created volume geometry objects sizes alone says has none = record {
+volume_is_created volume geometry objects sizes alone says has none no_holds = record {
   volume = volume;
   says = says;
   sizes = sizes;
@@ -175,6 +208,7 @@ volume_is_created volume geometry objects sizes alone says has none = record {
   whole = whole_with volume.uuid 0 objects has
       (λ number bytes apart present. let missing = none number (omega arith) in
       absurd (some_is_none bytes (sym present ∙ missing)));
+  holds = λ number bytes present. absurd (some_is_none bytes (sym present ∙ no_holds number));
 }
   where
     some_is_none : (bytes : List ℕ) → Some bytes ≡ None → ⊥

@@ -1,5 +1,5 @@
 -- What follows from an outcome, and from a store in which only the count of faults changed.
-use Rattle.std.proofs.Common.{◌≡◌, Option, Some, None, Ok, Err, sym, ap, subst}
+use Rattle.std.proofs.Common.{◌≡◌, ℕ, Option, Some, None, Ok, Err, sym, ◌∙◌, ap, subst}
 use Rattle.std.specs.Prelude.{Result, IfErr, IsErrAnd, IsErrOf, IfSome}
 use Rattle.lsvd_objstore.specs.Objects.{Objects}
 use Rattle.lsvd_objstore.specs.Store.{StoreState, OnlyCounts}
@@ -28,3 +28,18 @@ pub told_both : (P Q R : Objects → Type 0) (told : Option Objects) → ((objec
     → IfSome told Q → IfSome told R
 told_both P Q R None so is other = tt
 told_both P Q R (Some objects) so is other = so objects is other
+
+pub told_three : (P Q R T : Objects → Type 0) (told : Option Objects)
+    → ((objects : Objects) → P objects → Q objects → R objects → T objects) → IfSome told P → IfSome told Q → IfSome told R
+    → IfSome told T
+told_three P Q R T None so is other third = tt
+told_three P Q R T (Some objects) so is other third = so objects is other third
+
+pub listed_so : (told : Option Objects) (P Q : Objects → Type 0) → IfSome told P → IfSome told (λ objects. P objects → Q objects)
+    → IfSome told Q
+listed_so None P Q is so = tt
+listed_so (Some objects) P Q is so = so is
+
+-- a store that was only counted in, without a fault, is as it was
+pub same_store : (old new : StoreState) → OnlyCounts old new → new.faults ≡ old.faults → new ≡ old
+same_store old new only same = only ∙ ap (λ (n : ℕ). let state : StoreState = record old { faults = n } in state) same

@@ -17,6 +17,7 @@ use Rattle.super_recovery.specs.declared.error.SuperError.{SuperError}
 use Rattle.super_recovery.specs.declared.error.SuperError.TheVariants as errors
 use Rattle.super_recovery.specs.declared.finding.FoundVolume.{FoundVolume}
 use Rattle.super_recovery.specs.Faults.{IsNoAnswer}
+use Rattle.super_recovery.specs.Holds.{AreHolds, HasBadHold}
 
 -- ---- objects and names
 
@@ -56,6 +57,10 @@ pub record HasBadEpoch (uuid : List ℕ) (number : ℕ) (objects : Objects) : Ty
   pub bad : HasEpoch uuid number objects → ⊥
   pub newest : (other : ℕ) → number < other → other < 2 ^ 64 → found objects (epoch_name uuid other) ≡ None
 
+-- it has one that is the newest
+abbrev pub HasSomeNewest : (uuid : List ℕ) → Objects → Type 0
+HasSomeNewest uuid objects = (number : ℕ) × HasNewestEpoch uuid number objects
+
 -- ---- reasons
 
 -- why no newest epoch was read
@@ -64,10 +69,12 @@ IsWhyNoEpoch uuid objects errors.NoVolume = ⊥
 IsWhyNoEpoch uuid objects (errors.BadSuper (reasons.Super reason)) = ⊥
 IsWhyNoEpoch uuid objects (errors.BadSuper reasons.NoEpoch) = HasNoEpoch uuid objects
 IsWhyNoEpoch uuid objects (errors.BadSuper (reasons.BadEpoch number)) = HasBadEpoch uuid number objects
+IsWhyNoEpoch uuid objects (errors.BadSuper (reasons.BadHold number)) = ⊥
 IsWhyNoEpoch uuid objects errors.StoreFault = Unit {0}
 IsWhyNoEpoch uuid objects errors.OutOfMemory = Unit {0}
 
--- why the volume is refused; for its epochs only where it has a super object of the grammar
+-- why the volume is refused; for its epochs only where it has a super object of the grammar, and for its holds only where it has
+-- a newest epoch of the grammar too
 abbrev pub IsWhyVolumeRefused : (uuid : List ℕ) → Objects → SuperError → Type 0
 IsWhyVolumeRefused uuid objects errors.NoVolume = found objects (super_name uuid) ≡ None
 IsWhyVolumeRefused uuid objects (errors.BadSuper (reasons.Super reason)) =
@@ -75,6 +82,8 @@ IsWhyVolumeRefused uuid objects (errors.BadSuper (reasons.Super reason)) =
 IsWhyVolumeRefused uuid objects (errors.BadSuper reasons.NoEpoch) = HasSomeSuper uuid objects × HasNoEpoch uuid objects
 IsWhyVolumeRefused uuid objects (errors.BadSuper (reasons.BadEpoch number)) = HasSomeSuper uuid objects
     × HasBadEpoch uuid number objects
+IsWhyVolumeRefused uuid objects (errors.BadSuper (reasons.BadHold number)) = HasSomeSuper uuid objects
+    × HasSomeNewest uuid objects × HasBadHold uuid number objects
 IsWhyVolumeRefused uuid objects errors.StoreFault = Unit {0}
 IsWhyVolumeRefused uuid objects errors.OutOfMemory = Unit {0}
 
@@ -90,6 +99,7 @@ pub record IsFoundVolume (geometry : Geometry) (epoch : ℕ) (it : FoundVolume) 
 pub record IsFound (uuid : List ℕ) (objects : Objects) (it : FoundVolume) : Type 0 where
   pub says : HasSuper uuid it.volume objects
   pub newest : HasNewestEpoch uuid it.epoch objects
+  pub holds : AreHolds uuid it.holds.items objects
   pub only : (geometry : Geometry) (epoch : ℕ) → HasVolume uuid geometry epoch objects → IsFoundVolume geometry epoch it
 
 -- an error with its reason, which refuses no volume that the store has

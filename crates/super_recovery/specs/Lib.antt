@@ -1,5 +1,6 @@
 pub mod Faults
 pub mod Fronts
+pub mod Holds
 pub mod Found
 pub mod Put
 pub mod Laws

@@ -14,7 +14,7 @@ pub enum SuperError {
     /// The store has no super object of the volume.
     #[error("the store has no super object of the volume")]
     NoVolume,
-    /// The store has a super object of the volume, and it or the newest epoch is bad.
+    /// The store has a super object of the volume, and it, the newest epoch or a hold is bad.
     #[error("{reason}")]
     BadSuper { reason: BadSuper },
     /// A call of the store failed, and was counted by it.

@@ -15,8 +15,10 @@ ghost use Rattle.super_recovery.specs.Faults.{ends_by_fault, IsNoAnswer};
 ghost use Rattle.super_recovery.specs.Fronts.{IsFrontOf};
 ghost use Rattle.super_recovery.specs.Found.{HasEpoch, IsGreatestIn, IsFound, IsVolumeRefused, IsWhyNoEpoch};
 ghost use Rattle.super_recovery.specs.Found.{IsWhyVolumeRefused};
+ghost use Rattle.super_recovery.specs.Holds.{AreHoldsAmong};
 
 use crate::error::SuperError;
+use crate::holding::find_holds;
 use crate::reading::{Front, read_front};
 use lsvd_names::{NameKind, ObjName, a_uuid_has_sixteen_bytes};
 use lsvd_objstore::{Names, Receipt, Store, StoreError};
@@ -32,12 +34,14 @@ pub struct FoundVolume {
     pub volume: Super,
     /// The number of its newest epoch.
     pub epoch: u64,
+    /// The numbers of the checkpoints that its holds are on, ascending.
+    pub holds: Vec<u64>,
     /// The names of all objects of it that the store has.
     pub names: Names,
 }
 
-/// Finds the volume with this uuid in a store: its super object, the greatest number of its epochs, and the
-/// names of its objects. The store is only read, and listed once.
+/// Finds the volume with this uuid in a store: its super object, the greatest number of its epochs, its
+/// holds, and the names of its objects. The store is only read, and listed once.
 ///
 /// An error comes where, in the order of the tests:
 ///
@@ -46,6 +50,8 @@ pub struct FoundVolume {
 /// - `BadSuper` with `NoEpoch`: the store has no epoch of the volume.
 /// - `BadSuper` with `BadEpoch`: the epoch with the greatest number, which is told, has bytes that are no
 ///   epoch of that number.
+/// - `BadSuper` with `BadHold`: the hold with this number, the least such one, has bytes that are no hold of
+///   that number, or is in the listing and is not found then.
 /// - `StoreFault`: a call of the store failed, and was counted by it.
 /// - `OutOfMemory`: memory ran out.
 pub fn find_volume<S: Store>(
@@ -61,6 +67,7 @@ pub fn find_volume<S: Store>(
     ensures names { IfOk result (λ found. AreNamesOf uuid found.names) }
     ensures listed { IfOk result (λ found. IfSome (S.state store.old).objects (λ objects.
         Lists uuid objects found.names)) }
+    ensures holds { IfOk result (λ found. AreHoldsAmong uuid found.names found.holds.items) }
     ensures refused { TellsBytes S.Receipt.state
         → IfErr result (λ error. IfSome (S.state store.old).objects (λ objects.
         IsVolumeRefused uuid objects error)) }
@@ -69,9 +76,11 @@ pub fn find_volume<S: Store>(
 {
     let volume = find_super(alloc, store, uuid)?;
     let (epoch, names) = newest_epoch(alloc, store, uuid)?;
+    let holds = find_holds(alloc, store, uuid, names.as_slice())?;
     Ok(FoundVolume {
         volume,
         epoch,
+        holds,
         names,
     })
 }

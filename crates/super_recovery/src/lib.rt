@@ -1,14 +1,15 @@
 //! What a store says of a volume as a whole: reading it when the volume is mounted, and what a creation and a
 //! mount without the cache write of it.
 //!
-//! Its contract: the volume that is found is the one whose super object the store has, with its newest epoch,
-//! and a volume that the store has is never refused. Finding changes nothing. A put is that of one super
-//! object or of one epoch, and no other object is changed. It stands on `lsvd_objstore` for the store, on
-//! `super_format` for the bytes of both, and on `refusals` for what is bad of them.
+//! Its contract: the volume that is found is the one whose super object the store has, with its newest epoch
+//! and all its holds, and a volume that the store has is never refused. Finding changes nothing. A put is
+//! that of one super object or of one epoch, and no other object is changed. It stands on `lsvd_objstore` for
+//! the store, on `super_format` for the bytes of each, and on `refusals` for what is bad of them.
 #![tactic(auto)]
 
 mod error;
 mod finding;
+mod holding;
 mod laws;
 mod putting;
 mod reading;

@@ -101,6 +101,7 @@ described_with uuid geometry epoch objects log has = record {
   alone = has.alone;
   epochs = has.epochs;
   whole = has.whole;
+  holds = has.holds;
 }
 
 -- ---- removals that were stopped

@@ -7,7 +7,7 @@ use Rattle.std.proofs.lemmas.List.Elements.{All-nil}
 use Rattle.lsvd_base.specs.declared.geometry.Geometry.{Geometry}
 use Rattle.lsvd_base.specs.Limits.{is_within_limits}
 use Rattle.lsvd_names.specs.declared.name.ObjName.{ObjName}
-use Rattle.lsvd_names.specs.Names.{super_name, epoch_name, numbered_name}
+use Rattle.lsvd_names.specs.Names.{super_name, epoch_name, numbered_name, hold_name}
 use Rattle.lsvd_objstore.specs.Objects.{Objects, found}
 use Rattle.lsvd_objstore.specs.Store.{Becomes}
 use Rattle.object_format.specs.declared.expected.Expected.{Expected}
@@ -53,6 +53,15 @@ first_is_no_epoch uuid number same = let kind = ap (λ (n : ObjName). n.kind) sa
 other_epoch : (uuid : List ℕ) (number : ℕ) → 0 < number → epoch_name uuid number ≡ epoch_name uuid 0 → ⊥
 other_epoch uuid number past same = let number_is : number ≡ 0 = ap (λ (n : ObjName). n.number) same in
     omega (arith, number_is, past)
+
+hold_is_no_first : (uuid : List ℕ) (number : ℕ) → hold_name uuid number ≡ numbered_name uuid 1 → ⊥
+hold_is_no_first uuid number same = let kind = ap (λ (n : ObjName). n.kind) same in cc
+
+hold_is_no_epoch : (uuid : List ℕ) (number epoch : ℕ) → hold_name uuid number ≡ epoch_name uuid epoch → ⊥
+hold_is_no_epoch uuid number epoch same = let kind = ap (λ (n : ObjName). n.kind) same in cc
+
+hold_is_no_super : (uuid : List ℕ) (number : ℕ) → hold_name uuid number ≡ super_name uuid → ⊥
+hold_is_no_super uuid number same = let kind = ap (λ (n : ObjName). n.kind) same in cc
 
 pub epoch_is_no_object : (uuid : List ℕ) (number epoch : ℕ) → numbered_name uuid number ≡ epoch_name uuid epoch → ⊥
 epoch_is_no_object uuid number epoch same = let kind = ap (λ (n : ObjName). n.kind) same in cc
@@ -131,6 +140,9 @@ module _ (uuid : List ℕ) (geometry : Geometry) (old : Objects) (new_to : IsNew
         (λ number past.
         still_lacks (epoch_name uuid number) refl (first_is_no_epoch uuid number) (other_epoch uuid number past)
         (super_is_no_epoch uuid number))
+        (λ number.
+        still_lacks (hold_name uuid number) refl (hold_is_no_first uuid number) (hold_is_no_epoch uuid number 0)
+        (hold_is_no_super uuid number))
 
     lacks_object : (number : ℕ) → (number ≡ 1 → ⊥) → found new (numbered_name uuid number) ≡ None
     lacks_object number apart =

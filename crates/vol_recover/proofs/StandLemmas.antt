@@ -4,7 +4,7 @@ use Rattle.std.proofs.Common.{subst, arith}
 use Rattle.lsvd_base.specs.declared.geometry.Geometry.{Geometry}
 use Rattle.lsvd_names.specs.Spelling.{IsUuid}
 use Rattle.lsvd_objstore.specs.Objects.{Objects, found}
-use Rattle.lsvd_names.specs.Names.{super_name, epoch_name, numbered_name}
+use Rattle.lsvd_names.specs.Names.{super_name, epoch_name, numbered_name, hold_name}
 use Rattle.object_format.specs.declared.expected.Expected.{Expected}
 use Rattle.object_stream.specs.Landed.{Numbers}
 use Rattle.object_stream.specs.Stream.{Owners}
@@ -106,6 +106,7 @@ module _ (uuid : List ℕ) (number : ℕ) (old new : Objects) (removes : Removes
       (says_the_same uuid old new (record {
         of_super = removes.others (super_name uuid) (λ past. (let e = past.1.0 in cc));
         of_epochs = λ n. removes.others (epoch_name uuid n) (λ past. (let e = past.1.0 in cc));
+        of_holds = λ n. removes.others (hold_name uuid n) (λ past. (let e = past.1.0 in cc));
       })).has geometry epoch has
 
 pub removal_keeps_up_to : (uuid : List ℕ) (old new : Objects) (epoch : ℕ) (plain : PlainState) (landed : Numbers)

@@ -8,6 +8,7 @@ use Rattle.super_format.specs.Super.{geometry_with}
 use Rattle.stopped_volume.specs.Super.{HasSuper, HasNewestEpoch, HasVolume}
 use Rattle.super_recovery.specs.declared.error.SuperError.TheVariants as supers
 use Rattle.super_recovery.specs.Found.{IsVolumeRefused}
+use Rattle.super_recovery.specs.Holds.{AreHolds}
 use Rattle.refusals.specs.declared.refusal.Refusal.TheVariants.{NoVolume, BadSuper, HasAncestors}
 use Rattle.vol_mount.specs.declared.error.MountError.{MountError}
 use Rattle.vol_mount.specs.declared.error.MountError.TheVariants.{Refused, StoreFault, OutOfMemory}
@@ -22,14 +23,16 @@ OfVolume uuid log objects P =
 abbrev pub IsTheVolume : (uuid : List ℕ) → (log : ℕ) → Option Objects → Geometry → (epoch : ℕ) → Type 0
 IsTheVolume uuid log objects geometry epoch = OfVolume uuid log objects (λ g e. (geometry ≡ g) × (epoch ≡ e))
 
--- the store says that there is a volume without ancestors, which has these sizes on such a device, and that this is its newest
--- epoch
+-- the store says that there is a volume without ancestors, which has these sizes on such a device, that this is its newest epoch,
+-- and that its holds are on these checkpoints, each of the grammar
 pub record SaysVolume (uuid : List ℕ) (geometry : Geometry) (epoch : ℕ) (objects : Objects) : Type 0 where
   pub volume : Super
   pub says : HasSuper uuid volume objects
   pub sizes : geometry ≡ geometry_with volume geometry.log
   pub alone : volume.chain ≡ []
   pub newest : HasNewestEpoch uuid epoch objects
+  pub held : List ℕ
+  pub holds : AreHolds uuid held objects
 
 -- why the volume as a whole is refused, where receipts tell what they stand for
 abbrev pub IsWhyNotDescribed : (uuid : List ℕ) → Option Objects → MountError → Type 0

@@ -8,7 +8,7 @@
 //! mounted again. What is refused is left as it was. Whether the volume takes a log of so many sectors can be
 //! asked before its cache is made anew. Laws say that the store stands for a volume from its creation on and
 //! after each mount, and that what a stop leaves then is what a mount asks for. It stands on `super_recovery`
-//! for the super object and epochs, on `vol_mount` for mounts of a volume whose sizes are known, on
+//! for the super object, epochs and holds, on `vol_mount` for mounts of a volume whose sizes are known, on
 //! `vol_core` for the volume, and on `refine_store` for what stands in a store.
 #![tactic(auto)]
 

@@ -259,6 +259,7 @@ module _ {D R L K : Type 0} (disk_state : D → DiskState) (receipt_state : R �
         alone = described.alone;
         epochs = described.epochs;
         whole = described.whole;
+        holds = described.holds;
       } in
       let has : IsSomeAnd store.objects (HasVolume uuid sizes epoch) =
       subst (λ (o : Option Objects). IsSomeAnd o (HasVolume uuid sizes epoch)) (sym told) resized in

@@ -7,7 +7,7 @@ use Rattle.std.proofs.lemmas.Bool.Decides.{nat_tests}
 use Rattle.lsvd_base.specs.declared.geometry.Geometry.{Geometry}
 use Rattle.lsvd_names.specs.declared.name.ObjName.{ObjName}
 use Rattle.lsvd_names.specs.declared.name.NameKind.{NameKind}
-use Rattle.lsvd_names.specs.Names.{super_name, epoch_name, numbered_name}
+use Rattle.lsvd_names.specs.Names.{super_name, epoch_name, numbered_name, hold_name}
 use Rattle.lsvd_objstore.specs.Objects.{Objects, found, IsPut, IsRemoved, KeepsOthers}
 use Rattle.object_recovery.specs.Checkpoints.{expected_of}
 use Rattle.object_uploads.specs.State.{SealedState, UploadsState}
@@ -261,6 +261,9 @@ super_is_other uuid number same = (let kind = ap kind_in same in let bad : ⊥ =
 epoch_is_other : (uuid : List ℕ) (epoch number : ℕ) → epoch_name uuid epoch ≡ numbered_name uuid number → ⊥
 epoch_is_other uuid epoch number same = (let kind = ap kind_in same in let bad : ⊥ = cc in bad)
 
+hold_is_other : (uuid : List ℕ) (checkpoint number : ℕ) → hold_name uuid checkpoint ≡ numbered_name uuid number → ⊥
+hold_is_other uuid checkpoint number same = (let kind = ap kind_in same in let bad : ⊥ = cc in bad)
+
 -- ---- a change of one object
 
 module _ (uuid : List ℕ) (n : ℕ) (old new : Objects) (others : KeepsOthers (numbered_name uuid n) old new) where
@@ -288,6 +291,8 @@ module _ (uuid : List ℕ) (n : ℕ) (old new : Objects) (others : KeepsOthers (
     };
     whole = λ number found_bytes there.
         has_.whole number found_bytes (sym (others (epoch_name uuid number) (epoch_is_other uuid number n)) ∙ there);
+    holds = λ number found_bytes there.
+        has_.holds number found_bytes (sym (others (hold_name uuid number) (hold_is_other uuid number n)) ∙ there);
   }
 
   -- so the store stands where the put of that object may have what is there now

@@ -3,14 +3,14 @@ use Rattle.std.proofs.lemmas.Bool.Decides.{nat_tests}
 use Rattle.std.specs.Prelude.{IfOk, OnErr, IsTrue, ◌↔◌}
 use Rattle.super_format.specs.declared.epoch.Epoch.{Epoch}
 use Rattle.super_format.specs.Epoch.{IsEpoch}
-use Rattle.super_recovery.proofs.FrontLemmas.{epoch_by_bytes, no_epoch_by_length}
+use Rattle.super_recovery.proofs.FrontLemmas.{by_bytes, no_epoch_by_length}
 use Rattle.super_recovery.proofs.finding.is_epoch.Goals as goal
 
 pub returns-then-front : goal.returns-then-front
 returns-then-front c bytes of =
     let short : c.args.front.now.len ≤ 32 = grind (arith, nat_tests) in
     let is = c.as_slice.ensures.value in
-    let either = epoch_by_bytes c.args.front.now c.args.uuid c.args.number c.read.result short
+    let either = by_bytes (λ xs. IsEpoch xs c.args.uuid c.args.number) c.args.front.now c.read.result short
     (subst (λ xs. IfOk c.read.result (IsEpoch xs c.args.uuid c.args.number)) is c.read.ensures.ok)
     (subst (λ xs. OnErr c.read.result ((epoch : Epoch) → IsEpoch xs c.args.uuid c.args.number epoch → ⊥)) is c.read.ensures.none)
     bytes of in
