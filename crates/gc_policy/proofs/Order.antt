@@ -1,5 +1,5 @@
 -- The order in which candidates are taken: of two with different numbers one goes first, and it goes on over a third.
-use Rattle.std.proofs.Common.{ℕ, ◌*◌, ◌<◌, ◌≤◌, ◌≡◌, ◌≢◌, Bool, true, false, ◌&&◌, nat_eq, ap, arith}
+use Rattle.std.proofs.Common.{not, ℕ, ◌*◌, ◌<◌, ◌≤◌, ◌≡◌, ◌≢◌, Bool, true, false, ◌&&◌, nat_eq, ap, arith}
 use Rattle.std.specs.Prelude.{◌||◌, nat_lt, IsTrue}
 use Rattle.std.specs.Cmp.{IsStrictWeakOrder}
 use Rattle.std.proofs.Math.Nat.{mul-le-mul_right, le_of_mul-le-mul_right}
@@ -64,7 +64,9 @@ all_equal live_a live_b live_c payload_a payload_b payload_c some_a some_c first
 
 some_payload : (candidate : Candidate) → 0 < candidate.row.payload
 some_payload candidate =
-    let few = (and_parts (nat_lt 0 candidate.row.live) _ candidate.is_one).1 in
+    let row = candidate.row in
+    let poor = nat_lt 0 row.live && nat_lt (row.live * 100) (70 * row.payload) in
+    let few = (and_parts (nat_lt 0 row.live) _ (and_parts poor (not row.is_held) candidate.is_one).0).1 in
     grind (arith, nat_tests, few)
 
 goes_on : (one other third : Candidate) → goes_before one.row other.row ≡ false → goes_before other.row third.row ≡ false

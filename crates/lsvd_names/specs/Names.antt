@@ -1,5 +1,7 @@
 -- Contract: the names of a volume's objects.
-use Rattle.std.specs.Prelude.{ℕ, List}
+use Rattle.std.specs.Prelude.{ℕ, Option, Some, None, List}
+use Rattle.std.specs.List.{filter_map}
+use Rattle.lsvd_names.specs.declared.name.NameKind.{NameKind}
 use Rattle.lsvd_names.specs.declared.name.ObjName.{ObjName}
 use Rattle.lsvd_names.specs.declared.name.NameKind.TheVariants.{Super, Epoch, Object, Hold}
 
@@ -18,3 +20,16 @@ numbered_name uuid number = record { uuid = uuid; kind = Object; number = number
 -- the name of the hold on the checkpoint of a number
 abbrev pub hold_name : (uuid : List ℕ) (number : ℕ) → ObjName
 hold_name uuid number = record { uuid = uuid; kind = Hold; number = number }
+
+-- the number of a name of a hold, and those of all such names, in their order
+abbrev pub if_hold : NameKind → ℕ → Option ℕ
+if_hold Super number = None
+if_hold Epoch number = None
+if_hold Object number = None
+if_hold Hold number = Some number
+
+abbrev pub hold_number : ObjName → Option ℕ
+hold_number name = if_hold name.kind name.number
+
+abbrev pub hold_numbers : List ObjName → List ℕ
+hold_numbers names = filter_map hold_number names

@@ -1,15 +1,13 @@
 -- How a list begins with a checkpoint: the steps together.
-use Rattle.std.proofs.Common.{◌≡◌, ℕ, ◌<◌, ◌≤◌, Option, Some, None, List, [], ◌∷◌, ◌++◌, map, refl, sym, ◌∙◌, ap, subst, arith}
-use Rattle.std.specs.Prelude.{IfSome, option_map}
+use Rattle.std.proofs.Common.{◌≡◌, ℕ, Option, Some, None, List, [], refl, sym, ap, subst}
+use Rattle.std.specs.Prelude.{IfSome}
 use Rattle.std.specs.Option.{IsSome}
 use Rattle.std.specs.List.{All, AllZip, AllByRecursion, Contains}
 use Rattle.std.proofs.lemmas.List.Elements.{All-contains}
 use Rattle.batcher.specs.State.{BatchState}
 use Rattle.lsvd_base.specs.declared.geometry.Geometry.{Geometry}
-use Rattle.lsvd_base.specs.Image.{Image}
 use Rattle.lsvd_names.specs.declared.name.ObjName.{ObjName}
 use Rattle.lsvd_objstore.specs.Objects.{Objects, Lists}
-use Rattle.lsvd_objstore.specs.Store.{ReceiptState}
 use Rattle.extent_map.specs.declared.extent.Extent.{Extent}
 use Rattle.extent_map.specs.Extents.{place_at}
 use Rattle.ckpt_format.specs.declared.place.StoredPlace.{StoredPlace}
@@ -22,15 +20,14 @@ use Rattle.volume_maps.specs.Places.{log_on}
 use Rattle.object_uploads.specs.State.{SealedState}
 use Rattle.object_uploads.specs.Image.{IsReceiptFor}
 use Rattle.object_uploads.specs.Order.{IsUploads}
-use Rattle.object_uploads.specs.Opening.{IsSameButFound, HasBegun}
 use Rattle.obj_log.specs.State.{ObjLogState}
 use Rattle.object_recovery.specs.Checkpoints.{expected_of, ReadCheckpoint, IsStoredCheckpoint}
 use Rattle.object_recovery.specs.Missing.{IsMissing}
-use Rattle.object_recovery.specs.Earlier.{EarlierObject, AreEarlier, AreAllEarlier, IsReached, ReachedBy, ReachAll}
+use Rattle.object_recovery.specs.Earlier.{EarlierObject, AreAllEarlier, IsReached, ReachedBy, ReachAll}
 use Rattle.object_recovery.specs.Earlier.{AreSameObjects, NamesNone}
-use Rattle.object_recovery.specs.Beginning.{HasValue, BeginsList, BeginsInStore, LacksReach, IsTakenUp, HasTakenUp, HasRows}
+use Rattle.object_recovery.specs.Beginning.{HasValue, BeginsList, BeginsInStore, LacksReach, IsTakenUp, HasTakenUp}
 use Rattle.object_recovery.specs.Recovery.{IsListUpTo}
-use Rattle.object_recovery.specs.Table.{HasTableFrom}
+use Rattle.object_recovery.specs.Table.{HasTableUnheld}
 use Rattle.object_recovery.proofs.BegunTable.{ListsTable, knows, named_there, payloads_there}
 use Rattle.object_recovery.proofs.EarlierLemmas.{all_earlier_same}
 use Rattle.object_recovery.proofs.BegunLemmas.{HasBegunWith, places_inside, owners_are}
@@ -116,7 +113,7 @@ module _ (uuid : List ℕ) (geometry : Geometry) (checkpoint : ReadCheckpoint) (
     (reach : (k : ℕ) (place : StoredPlace) → place_at stored_on rows k ≡ Some place → IsReached earlier place)
     (begun : HasBegunWith (expected_of uuid geometry) earlier rows log.uploads.queue)
     (list : IsListUpTo uuid geometry checkpoint.number checkpoint.end log) where
-  pub begins_list : IsUploads log.uploads → HasTableFrom checkpoint.number log.uploads.queue
+  pub begins_list : IsUploads log.uploads → HasTableUnheld checkpoint.number log.uploads.queue
       → BeginsList uuid geometry checkpoint rows log
   begins_list order table = record {
     list = list;

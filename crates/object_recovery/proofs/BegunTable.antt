@@ -1,11 +1,11 @@
 -- The table of a list that begins with a checkpoint: which objects it has, and which of them the checkpoint does not map.
-use Rattle.std.proofs.Common.{◌≡◌, ℕ, ◌+◌, ◌<◌, ◌≤◌, inl, inr, Option, Some, None, List, [], ◌∷◌, ◌++◌, length, map, refl, sym}
+use Rattle.std.proofs.Common.{◌≡◌, ℕ, ◌<◌, ◌≤◌, inl, inr, Option, Some, None, List, [], ◌∷◌, ◌++◌, map, refl, sym}
 use Rattle.std.proofs.Common.{◌∙◌, ap, subst, arith}
 use Rattle.std.specs.Prelude.{IsTrue, is_some, option_map, IfSome, IsSome, nat_eq, ◌↔◌, ◌⊎◌, false}
 use Rattle.std.specs.Option.{IsSome as IsTold}
 use Rattle.std.specs.List.{All, AllZip, Contains}
 use Rattle.std.proofs.lemmas.Bool.{cases_lt}
-use Rattle.std.proofs.lemmas.List.Elements.{All-nil, All-cons, All-head, All-tail, All-push, All-map, All-contains}
+use Rattle.std.proofs.lemmas.List.Elements.{All-nil, All-cons, All-push, All-map, All-contains}
 use Rattle.std.proofs.lemmas.List.Elements.{All-contains_itself, All-weaker}
 use Rattle.lsvd_base.specs.declared.geometry.Geometry.{Geometry}
 use Rattle.lsvd_names.specs.Names.{numbered_name}
@@ -44,13 +44,13 @@ use Rattle.obj_log.specs.State.{ObjLogState}
 use Rattle.object_recovery.specs.Beginning.{IsTakenUp, HasTakenUp, HasRows}
 use Rattle.object_recovery.specs.Checkpoints.{expected_of}
 use Rattle.object_recovery.specs.Earlier.{EarlierObject, HasEarlier, AreAllEarlier, IsStoredThere, IsReached}
-use Rattle.object_recovery.specs.Table.{HasTableFrom, HasPayloadThere, ArePayloadsThere, KnowsObjects, AreNamedThere}
+use Rattle.object_recovery.specs.Table.{HasTableUnheld, HasPayloadThere, ArePayloadsThere, KnowsObjects, AreNamedThere}
 use Rattle.object_recovery.proofs.BegunLemmas.{HasPayloadIn, HasBegunWith, mapped_from, has_at}
 use Rattle.object_recovery.proofs.FindLemmas.{of_told}
 use Rattle.object_recovery.proofs.PlaceLemmas.{so_some}
 use Rattle.object_recovery.proofs.RecoverLemmas.{one_reading}
 use Rattle.object_recovery.proofs.TableLemmas.{same_presence, row_of_last, AreUnpinned, unpinned_same, AreNotCopied}
-use Rattle.object_recovery.proofs.TableLemmas.{not_copied_same}
+use Rattle.object_recovery.proofs.TableLemmas.{not_copied_same, AreUnheld, unheld_same}
 use Rattle.object_recovery.proofs.TakenLemmas.{taken_have}
 
 -- ---- which objects it has
@@ -61,7 +61,7 @@ IsListed earlier number n = HasEarlier earlier n ⊎ (n ≡ number)
 
 -- The table is from the checkpoint on, has no object but it and those before it, and has it where it has a number at all.
 pub record ListsTable (number : ℕ) (earlier : List EarlierObject) (queue : QueueState) : Type 0 where
-  pub table : HasTableFrom number queue
+  pub table : HasTableUnheld number queue
   pub listed : All (λ (row : ObjectRow). IsListed earlier number row.number) queue.maps.objects.rows
   pub own : 0 < number → IsTrue (is_some (row_of number queue.maps.objects.rows))
 
@@ -92,6 +92,12 @@ module _ (uuid : List ℕ) (geometry : Geometry) (number end : ℕ) (earlier : L
       (taken_new (expected_of uuid geometry) (λ (row : ObjectRow). row.is_copied ≡ false) (λ n payload front. refl) earlier
       taken.uploads.queue.maps.objects.rows is.objects)
 
+  unheld : AreUnheld table_rows
+  unheld =
+      unheld_same table_rows taken.uploads.queue.maps.objects.rows has.objects.rows
+      (taken_new (expected_of uuid geometry) (λ (row : ObjectRow). row.is_held ≡ false) (λ n payload front. refl) earlier
+      taken.uploads.queue.maps.objects.rows is.objects)
+
   listed : All (λ (row : ObjectRow). IsListed earlier number row.number) table_rows
   listed =
       renumbered (IsListed earlier number) taken.uploads.queue.maps.objects.rows table_rows
@@ -104,11 +110,14 @@ module _ (uuid : List ℕ) (geometry : Geometry) (number end : ℕ) (earlier : L
   pub none_begun : number ≡ 0 → ListsTable number earlier log.uploads.queue
   none_begun zero_ = record {
     table = record {
-      checkpoint_is = has.objects.checkpoint ∙ is.checkpoint ∙ sym zero_;
-      removal = has.rest.removal ∙ is.removal;
-      unpinned = unpinned;
-      not_copied = not_copied;
-      exact = λ at i d inside below. absurd (omega (arith, below, zero_));
+      table = record {
+        checkpoint_is = has.objects.checkpoint ∙ is.checkpoint ∙ sym zero_;
+        removal = has.rest.removal ∙ is.removal;
+        unpinned = unpinned;
+        not_copied = not_copied;
+        exact = λ at i d inside below. absurd (omega (arith, below, zero_));
+      };
+      unheld = unheld;
     };
     listed = listed;
     own = λ some. absurd (omega (arith, some, zero_));
@@ -141,13 +150,16 @@ module _ (uuid : List ℕ) (geometry : Geometry) (number end : ℕ) (earlier : L
     pub all_passed : ListsTable number earlier new.uploads.queue
     all_passed = record {
       table = record {
-        checkpoint_is = begun.checkpoint ∙ frontier;
-        removal = begun.rest.removal ∙ has.rest.removal ∙ is.removal;
-        unpinned = now_all (λ (row : ObjectRow). row.pins ≡ 0) unpinned refl;
-        not_copied = now_all (λ (row : ObjectRow). row.is_copied ≡ false) not_copied refl;
-        exact = λ at.
-            now_all (λ (row : ObjectRow). row.number < number → row.is_unmapped ≡ nat_eq row.live 0)
-            (λ i d inside low. refl) (λ low. absurd (omega (arith, low)));
+        table = record {
+          checkpoint_is = begun.checkpoint ∙ frontier;
+          removal = begun.rest.removal ∙ has.rest.removal ∙ is.removal;
+          unpinned = now_all (λ (row : ObjectRow). row.pins ≡ 0) unpinned refl;
+          not_copied = now_all (λ (row : ObjectRow). row.is_copied ≡ false) not_copied refl;
+          exact = λ at.
+              now_all (λ (row : ObjectRow). row.number < number → row.is_unmapped ≡ nat_eq row.live 0)
+              (λ i d inside low. refl) (λ low. absurd (omega (arith, low)));
+        };
+        unheld = now_all (λ (row : ObjectRow). row.is_held ≡ false) unheld refl;
       };
       listed = now_all (λ (row : ObjectRow). IsListed earlier number row.number) listed (inr refl);
       own = λ some. own_there;
@@ -228,11 +240,11 @@ module _ (uuid : List ℕ) (geometry : Geometry) (number base_end : ℕ) (earlie
         let live = found_holds (λ (r : ObjectRow). r.live ≡ live_sectors r.number queue.maps.settled.rows) n list row at
         order.known.counted.live ∙ ap (λ m. live_sectors m queue.maps.settled.rows) named in
         let exact = found_holds (λ (r : ObjectRow). r.number < number → r.is_unmapped ≡ nat_eq r.live 0) n list row at
-        (lists.table.exact frontier) in (
+        (lists.table.table.exact frontier) in (
           λ unmapped. (
               let dead = order.known.unmapped n (row, at, unmapped) in
               let none = dead_has_none n queue.maps order.known.counted dead.0 in (
-                omega (arith, dead.1, lists.table.checkpoint_is),
+                omega (arith, dead.1, lists.table.table.checkpoint_is),
                 λ k. owner_is k ∙ nowhere n queue.maps.settled.rows k none,
               )),
           λ both. (

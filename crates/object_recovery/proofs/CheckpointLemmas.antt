@@ -17,7 +17,7 @@ use Rattle.lsvd_base.specs.declared.geometry.Geometry.{Geometry}
 use Rattle.lsvd_names.specs.Spelling.{IsUuid}
 use Rattle.lsvd_names.specs.declared.name.NameKind.TheVariants.{Object}
 use Rattle.lsvd_names.specs.declared.name.ObjName.{ObjName}
-use Rattle.lsvd_names.specs.Names.{numbered_name}
+use Rattle.lsvd_names.specs.Names.{numbered_name, hold_name}
 use Rattle.lsvd_objstore.specs.Objects.{Objects, name_cmp, found, Lists}
 use Rattle.lsvd_objstore.specs.Store.{ReceiptState, Finds}
 use Rattle.extent_map.specs.declared.extent.Extent.{Extent}
@@ -111,6 +111,10 @@ same_uuid uuid = self_reversed (slice_cmp nat_cmp uuid uuid) (nat_list_cmp_total
 -- numbered names of a volume are in the order of their numbers
 pub name_order : (uuid : List ℕ) (a b : ℕ) → name_cmp (numbered_name uuid a) (numbered_name uuid b) ≡ Less → a < b
 name_order uuid a b less = number_order a b (sym (ap (λ order. ordering_then order (nat_cmp a b)) (same_uuid uuid)) ∙ less)
+
+-- so are those of holds
+pub hold_order : (uuid : List ℕ) (a b : ℕ) → name_cmp (hold_name uuid a) (hold_name uuid b) ≡ Less → a < b
+hold_order uuid a b less = number_order a b (sym (ap (λ order. ordering_then order (nat_cmp a b)) (same_uuid uuid)) ∙ less)
 
 module _ (uuid : List ℕ) (geometry : Geometry) (objects : Objects) (names : List ObjName) (is_uuid : IsUuid uuid)
     (listed : Lists uuid objects names) where

@@ -36,6 +36,21 @@ earlier_push uuid below earlier e are under from_one within named = record {
 
 -- ---- among names
 
+pub one_more_among : (names : List ObjName) (index : ℕ) (name other : ObjName) → index < length names
+    → get_or names index name ≡ name
+    → IsAmongFirst names (index + 1) other → IsAmongFirst names index other ⊎ (name ≡ other)
+one_more_among names index name other inside at among =
+    elim (cases_lt among.0 index) [
+      | inl low ↦ inl (among.0, low, among.2, among.3)
+      | inr high ↦
+          let same : among.0 ≡ index = omega (arith, among.1, high) in
+          inr (sym at ∙ get_or_default names index name other inside ∙ ap (λ i. get_or names i other) (sym same) ∙ among.3)
+    ]
+
+pub still_among_first : (names : List ObjName) (index : ℕ) (other : ObjName) → IsAmongFirst names index other
+    → IsAmongFirst names (index + 1) other
+still_among_first names index other among = (among.0, omega (arith, among.1), among.2, among.3)
+
 module _ (uuid : List ℕ) (names : List ObjName) (names_of : AreNamesOf uuid names) (index : ℕ) (name : ObjName)
     (inside : index < length names) (at : get_or names index name ≡ name) where
   pub own_name : name.kind ≡ Object → name ≡ numbered_name uuid name.number
@@ -56,17 +71,10 @@ module _ (uuid : List ℕ) (names : List ObjName) (names_of : AreNamesOf uuid na
   -- one of the first names is before the index, or the one there
   last_among : (n : ℕ) → IsAmongFirst names (index + 1) (numbered_name uuid n)
       → IsAmongFirst names index (numbered_name uuid n) ⊎ (name ≡ numbered_name uuid n)
-  last_among n among =
-      elim (cases_lt among.0 index) [
-        | inl low ↦ inl (among.0, low, among.2, among.3)
-        | inr high ↦
-            let same : among.0 ≡ index = omega (arith, among.1, high) in
-            inr (sym at ∙ get_or_default names index name (numbered_name uuid n) inside
-            ∙ ap (λ i. get_or names i (numbered_name uuid n)) (sym same) ∙ among.3)
-      ]
+  last_among n = one_more_among names index name (numbered_name uuid n) inside at
 
   more_among : (n : ℕ) → IsAmongFirst names index (numbered_name uuid n) → IsAmongFirst names (index + 1) (numbered_name uuid n)
-  more_among n among = (among.0, omega (arith, among.1), among.2, among.3)
+  more_among n = still_among_first names index (numbered_name uuid n)
 
   -- a name that is skipped
   module _ (below : ℕ) (told : Option Objects) (earlier : List EarlierObject)

@@ -32,3 +32,6 @@ pub mod OutcomeLemmas
 pub mod GreatestLemmas
 pub mod AgainLemmas
 pub mod SomeImageLemmas
+pub mod MarkLemmas
+pub mod HoldingLemmas
+pub mod HeldLemmas

@@ -1,5 +1,5 @@
 -- An object that the store has, by its receipt and its row of the table.
-use Rattle.std.proofs.Common.{◌≡◌, ℕ, ◌+◌, ◌==◌, true, false, cond, Bool, Some, None, List, [], ◌∷◌, ◌++◌}
+use Rattle.std.proofs.Common.{◌≡◌, ℕ, ◌==◌, true, false, cond, Bool, Some, None, List, [], ◌∷◌, ◌++◌}
 use Rattle.std.proofs.Common.{map, refl, sym, ◌∙◌, ap, arith}
 use Rattle.std.proofs.lemmas.Bool.Decides.{nat_tests}
 use Rattle.lsvd_objstore.specs.Store.{ReceiptState}

@@ -8,12 +8,11 @@ use Rattle.std.specs.List.{All}
 use Rattle.std.proofs.lemmas.Bool.{cases_lt}
 use Rattle.std.proofs.lemmas.Bool.Decides.{nat_tests}
 use Rattle.std.proofs.lemmas.List.Elements.{All-nil, All-cons, All-head, All-tail, All-push, All-weaker}
-use Rattle.lsvd_objstore.specs.Objects.{Objects, found}
+use Rattle.lsvd_objstore.specs.Objects.{Objects}
 use Rattle.lsvd_objstore.specs.Store.{ReceiptState}
 use Rattle.object_format.specs.declared.copy_row.CopyRow.{CopyRow}
 use Rattle.object_format.specs.declared.data_row.DataRow.{DataRow}
 use Rattle.object_format.specs.declared.expected.Expected.{Expected}
-use Rattle.object_stream.specs.Replay.{object_name}
 use Rattle.object_stream.specs.Stream.{Owners, is_own}
 use Rattle.stopped_volume.specs.Objects.{landed_in}
 use Rattle.stopped_volume.specs.Opening.{IsCheckpointOf}
@@ -28,7 +27,7 @@ use Rattle.volume_maps.specs.Maps.{settled_at, row_object_place, settled_by_row,
 use Rattle.object_uploads.specs.State.{QueueState}
 use Rattle.object_uploads.specs.declared.rows.SealedRows.{SealedRows}
 use Rattle.object_uploads.specs.declared.rows.SealedRows.TheVariants as sealed_rows
-use Rattle.object_uploads.specs.Queue.{front_of, copy_front_of, payload_of, copy_payload_of, is_checkpoint, IsNextSettled}
+use Rattle.object_uploads.specs.Queue.{is_checkpoint, IsNextSettled}
 use Rattle.object_uploads.proofs.DeadRows.{row_seen}
 use Rattle.object_uploads.proofs.StoredLemmas.{first_row}
 use Rattle.lsvd_base.specs.declared.geometry.Geometry.{Geometry}
@@ -36,7 +35,7 @@ use Rattle.obj_log.specs.State.{ObjLogState}
 use Rattle.obj_log.specs.Changes.{expected_of_volume}
 use Rattle.object_recovery.specs.Adoption.{AdoptsNext, KeepsKnown, KeepsTable}
 use Rattle.object_recovery.specs.Recovery.{IsListUpTo}
-use Rattle.object_recovery.specs.Table.{HasTableFrom, HasPayloadThere, ArePayloadsThere, KnowsObjects}
+use Rattle.object_recovery.specs.Table.{HasTableUnheld, HasPayloadThere, ArePayloadsThere, KnowsObjects}
 use Rattle.object_recovery.proofs.AdoptionLemmas.{no_checkpoint}
 use Rattle.object_recovery.proofs.PayloadLemmas.{joined_payload, joined_front, payload_there}
 use Rattle.object_recovery.proofs.PlaceLemmas.{so_some, some_so}
@@ -153,24 +152,35 @@ AreUnpinned rows = All (λ (row : ObjectRow). row.pins ≡ 0) rows
 abbrev pub AreNotCopied : List ObjectRow → Type 0
 AreNotCopied rows = All (λ (row : ObjectRow). row.is_copied ≡ false) rows
 
--- rows that differ in live sectors alone
-all_same : (Is : ObjectRow → Type 0) → ((x y : ObjectRow) → but_live x ≡ but_live y → Is y → Is x)
-    → (new old : List ObjectRow) → map but_live new ≡ map but_live old → All Is old → All Is new
-all_same Is keeps [] old same all = All-nil Is
-all_same Is keeps (x ∷ new) [] same all = absurd cc
-all_same Is keeps (x ∷ new) (y ∷ old) same all =
-    let head : but_live x ≡ but_live y = cc in
-    let tail : map but_live new ≡ map but_live old = cc in
-    All-cons Is x new (keeps x y head (All-head Is y old all)) (all_same Is keeps new old tail (All-tail Is y old all))
+abbrev pub AreUnheld : List ObjectRow → Type 0
+AreUnheld rows = All (λ (row : ObjectRow). row.is_held ≡ false) rows
+
+-- what holds of rows holds of others that look the same
+pub all_same : (seen : ObjectRow → ObjectRow) (Is : ObjectRow → Type 0) → ((x y : ObjectRow) → seen x ≡ seen y → Is y → Is x)
+    → (new old : List ObjectRow) → map seen new ≡ map seen old → All Is old → All Is new
+all_same seen Is keeps [] old same all = All-nil Is
+all_same seen Is keeps (x ∷ new) [] same all = absurd cc
+all_same seen Is keeps (x ∷ new) (y ∷ old) same all =
+    let head : seen x ≡ seen y = cc in
+    let tail : map seen new ≡ map seen old = cc in
+    All-cons Is x new (keeps x y head (All-head Is y old all)) (all_same seen Is keeps new old tail (All-tail Is y old all))
+
+-- so it is with rows that differ in live sectors alone
 
 pub unpinned_same : (new old : List ObjectRow) → map but_live new ≡ map but_live old → AreUnpinned old → AreUnpinned new
 unpinned_same new old same none =
-    all_same (λ (row : ObjectRow). row.pins ≡ 0) (λ x y is was. ap (λ (row : ObjectRow). row.pins) is ∙ was) new old same none
+    all_same but_live (λ (row : ObjectRow). row.pins ≡ 0) (λ x y is was. ap (λ (row : ObjectRow). row.pins) is ∙ was) new old
+    same none
 
 pub not_copied_same : (new old : List ObjectRow) → map but_live new ≡ map but_live old → AreNotCopied old → AreNotCopied new
 not_copied_same new old same none =
-    all_same (λ (row : ObjectRow). row.is_copied ≡ false) (λ x y is was. ap (λ (row : ObjectRow). row.is_copied) is ∙ was) new
-    old same none
+    all_same but_live (λ (row : ObjectRow). row.is_copied ≡ false)
+    (λ x y is was. ap (λ (row : ObjectRow). row.is_copied) is ∙ was) new old same none
+
+pub unheld_same : (new old : List ObjectRow) → map but_live new ≡ map but_live old → AreUnheld old → AreUnheld new
+unheld_same new old same none =
+    all_same but_live (λ (row : ObjectRow). row.is_held ≡ false)
+    (λ x y is was. ap (λ (row : ObjectRow). row.is_held) is ∙ was) new old same none
 
 -- ---- the next object is adopted
 
@@ -199,19 +209,26 @@ module _ (payload front : ℕ) (old new : QueueState) (next : HasJoined payload 
       let there = row_seen but_live n all new.maps.objects.rows row (λ r. refl) next.objects.rows at in
       ap is_some there.1
 
-  pub table_kept : (checkpoint : ℕ) → old.maps.objects.checkpoint ≤ old.frontier → HasTableFrom checkpoint old
-      → HasTableFrom checkpoint new
-  table_kept checkpoint low has = record {
-    checkpoint_is = next.objects.checkpoint ∙ has.checkpoint_is;
-    removal = next.removal ∙ has.removal;
-    unpinned =
-        unpinned_same new.maps.objects.rows all next.objects.rows
-        (All-push (λ (row : ObjectRow). row.pins ≡ 0) rows own has.unpinned refl);
-    not_copied =
-        not_copied_same new.maps.objects.rows all next.objects.rows
-        (All-push (λ (row : ObjectRow). row.is_copied ≡ false) rows own has.not_copied refl);
-    exact = λ at. absurd (omega (arith, at, next.frontier, has.checkpoint_is, low));
-  }
+  pub table_kept : (checkpoint : ℕ) → old.maps.objects.checkpoint ≤ old.frontier → HasTableUnheld checkpoint old
+      → HasTableUnheld checkpoint new
+  table_kept checkpoint low has =
+      let was = has.table in
+      record {
+        table = record {
+          checkpoint_is = next.objects.checkpoint ∙ was.checkpoint_is;
+          removal = next.removal ∙ was.removal;
+          unpinned =
+              unpinned_same new.maps.objects.rows all next.objects.rows
+              (All-push (λ (row : ObjectRow). row.pins ≡ 0) rows own was.unpinned refl);
+          not_copied =
+              not_copied_same new.maps.objects.rows all next.objects.rows
+              (All-push (λ (row : ObjectRow). row.is_copied ≡ false) rows own was.not_copied refl);
+          exact = λ at. absurd (omega (arith, at, next.frontier, was.checkpoint_is, low));
+        };
+        unheld =
+            unheld_same new.maps.objects.rows all next.objects.rows
+            (All-push (λ (row : ObjectRow). row.is_held ≡ false) rows own has.unheld refl);
+      }
 
   own_last : row_of number all ≡ Some own
   own_last =

@@ -35,7 +35,7 @@ use Rattle.object_recovery.specs.Places.{HasPlacesInside}
 use Rattle.object_recovery.specs.Read.{IsReadAs}
 use Rattle.object_recovery.specs.Recovery.{IsListUpTo, KeepsStreams, IsRecoveryRefused}
 use Rattle.object_recovery.specs.Recovering.{Recovers}
-use Rattle.object_recovery.specs.Table.{HasTableFrom, KnowsObjects}
+use Rattle.object_recovery.specs.Table.{HasTableUnheld, KnowsObjects}
 
 -- ---- the next object
 
@@ -138,9 +138,10 @@ abbrev pub KeepsKnown : Expected → Objects → (old new : ObjLogState) → Typ
 KeepsKnown volume objects old new = (base : ℕ) → base ≤ old.uploads.queue.frontier
     → KnowsObjects volume objects base old.uploads.queue → KnowsObjects volume objects base new.uploads.queue
 
--- where the table of one list is from a checkpoint on, that of the other one is
+-- where the table of one list is from a checkpoint on, before any hold is read, that of the other one is
 abbrev pub KeepsTable : (old new : ObjLogState) → Type 0
-KeepsTable old new = (checkpoint : ℕ) → HasTableFrom checkpoint old.uploads.queue → HasTableFrom checkpoint new.uploads.queue
+KeepsTable old new = (checkpoint : ℕ) → HasTableUnheld checkpoint old.uploads.queue
+    → HasTableUnheld checkpoint new.uploads.queue
 
 -- the list ends before the first missing number, or before this object
 abbrev pub HasEndedAt : Objects → ObjLogState → Option Reached → Type 0
@@ -224,7 +225,7 @@ pub record RecoverListOf (Tells : Type 0) (uuid : List ℕ) (geometry : Geometry
   pub from : IfOk result (λ log. base.number ≤ log.uploads.window.last)
   pub order : IfOk result (λ log. IsUploads log.uploads)
   pub places : IfOk result (λ log. HasPlacesInside geometry.sectors log.uploads.queue)
-  pub table : IfOk result (λ log. HasTableFrom base.number log.uploads.queue)
+  pub table : IfOk result (λ log. HasTableUnheld base.number log.uploads.queue)
   pub recovers : Tells → IfOk result (λ log. IfSome old.objects (λ objects.
       IsRecoveryBegun uuid geometry base names objects
       → Recovers (expected_of uuid geometry) base.number objects log))

@@ -37,7 +37,7 @@ use Rattle.object_recovery.specs.Missing.{IsMissing}
 use Rattle.object_recovery.specs.Earlier.{EarlierObject}
 use Rattle.object_recovery.specs.Places.{HasPlacesInside}
 use Rattle.object_recovery.specs.Recovery.{IsListUpTo}
-use Rattle.object_recovery.specs.Table.{HasTableFrom, KnowsObjects, AreNamedThere}
+use Rattle.object_recovery.specs.Table.{HasTableUnheld, KnowsObjects, AreNamedThere}
 
 -- Where all places of rows hold their sectors, the objects of a list have the image that is the value of the rows' owners, and
 -- each receipt is for the object's own bytes.
@@ -47,14 +47,14 @@ HasValue volume objects rows log =
     → IsValue objects uuid_at (owned_by rows) image → HasImage image log.uploads.queue × HasOwnReceipts log.uploads.queue
 
 -- A list begins with a checkpoint of these rows: all is acknowledged up to it, the objects' map has its places, each inside an
--- object that the store has, and the table is from it on.
+-- object that the store has, and the table is from it on, before any hold is read.
 pub record BeginsList (uuid : List ℕ) (geometry : Geometry) (checkpoint : ReadCheckpoint) (rows : List (Extent StoredPlace))
     (log : ObjLogState) : Type 0 where
   pub list : IsListUpTo uuid geometry checkpoint.number checkpoint.end log
   pub order : IsUploads log.uploads
   pub places : HasPlacesInside geometry.sectors log.uploads.queue
   pub owners_are : (k : ℕ) → place_owner (settled_at log.uploads.queue.maps k) ≡ owned_by rows k
-  pub table : HasTableFrom checkpoint.number log.uploads.queue
+  pub table : HasTableUnheld checkpoint.number log.uploads.queue
 
 -- A list begins with what the store has: its objects have the value of the rows of the checkpoint of this number, its table has
 -- just the objects that the store has up to it, and each place of the rows is in one of these.

@@ -12,5 +12,6 @@ pub mod Table
 pub mod Earlier
 pub mod Recovery
 pub mod Beginning
+pub mod Holding
 pub mod Recovering
 pub mod Laws

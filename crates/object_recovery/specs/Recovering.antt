@@ -1,23 +1,25 @@
 -- Contract: how a recovery of the objects of a volume ends.
-use Rattle.std.specs.Prelude.{ℕ, ◌+◌, ◌-◌, ◌^◌, ◌<◌, ◌≤◌, Option, IfSome, Result, IfOk, IfErr, List}
+use Rattle.std.specs.Prelude.{ℕ, ◌+◌, ◌-◌, ◌^◌, ◌<◌, ◌≤◌, ◌⊎◌, Option, IfSome, Result, IfOk, IfErr, List}
 use Rattle.lsvd_base.specs.declared.geometry.Geometry.{Geometry}
 use Rattle.lsvd_fault.specs.Faults.{Counts}
 use Rattle.lsvd_objstore.specs.Objects.{Objects}
 use Rattle.lsvd_objstore.specs.Store.{StoreState, OnlyCounts}
 use Rattle.object_format.specs.declared.expected.Expected.{Expected}
 use Rattle.object_stream.specs.Stream.{Owners}
+use Rattle.stopped_volume.specs.Holds.{IsHeld, HasCheckpoint}
 use Rattle.stopped_volume.specs.Opening.{IsCheckpointOf}
 use Rattle.object_uploads.specs.Order.{IsUploads}
 use Rattle.obj_log.specs.State.{ObjLogState}
 use Rattle.object_recovery.specs.declared.error.RecoverError.{RecoverError}
 use Rattle.object_recovery.specs.Checkpoints.{expected_of, IsNewestWithEnd}
 use Rattle.object_recovery.specs.Faults.{ends_by_fault}
+use Rattle.object_recovery.specs.Holding.{RefusesHeld}
 use Rattle.object_recovery.specs.Judging.{HaveLanded}
 use Rattle.object_recovery.specs.Places.{HasPlacesInside}
 use Rattle.object_recovery.specs.Recovery.{IsListUpTo, IsNoLonger, IsRecoveredOf, AreAllGood, AreNamedWholePast}
 use Rattle.object_recovery.specs.Recovery.{IsRecoveryRefused}
 use Rattle.object_recovery.specs.State.{RecoveredState, HasAllNames}
-use Rattle.object_recovery.specs.Table.{HasTableFrom, KnowsObjects, AreNamedThere}
+use Rattle.object_recovery.specs.Table.{HasTableFrom, KnowsObjects, KnowsHolds, AreNamedThere}
 
 -- The list is that of the objects of a store, and its checkpoint, which has this number, is their newest. Each of its objects has
 -- landed, each object past the checkpoint is good, and each past the list is whole. Its table has just the objects that the store
@@ -36,7 +38,7 @@ pub record Recovers (volume : Expected) (base : ℕ) (objects : Objects) (log : 
 
 -- The list of a volume was recovered, with the names of all its objects. Each object of the list is acknowledged, and each place
 -- in its map lies inside one; its objects are in order, and its table is from its checkpoint on. Where bytes are told, it is that
--- of the objects of the store.
+-- of the objects of the store, and its table says which of these a hold keeps.
 pub record RecoveredOf (Tells : Type 0) (uuid : List ℕ) (geometry : Geometry) (objects : Option Objects)
     (found : RecoveredState) : Type 0 where
   pub list : IsListUpTo uuid geometry found.log.uploads.window.last found.log.uploads.queue.end found.log
@@ -45,7 +47,23 @@ pub record RecoveredOf (Tells : Type 0) (uuid : List ℕ) (geometry : Geometry) 
   pub places : HasPlacesInside geometry.sectors found.log.uploads.queue
   pub table : HasTableFrom found.checkpoint found.log.uploads.queue
   pub names : HasAllNames objects found
+  pub holds : Tells → IfSome objects (λ objects.
+      KnowsHolds (expected_of uuid geometry) objects found.log.uploads.queue)
   pub told : Tells → IfSome objects (λ objects. Recovers (expected_of uuid geometry) found.checkpoint objects found.log)
+
+-- The error refuses the checkpoint of a hold, and the store has that of each hold on a lower number. The objects are recovered.
+pub record IsHoldRefused (volume : Expected) (objects : Objects) (error : RecoverError) : Type 0 where
+  pub base : ℕ
+  pub log : ObjLogState
+  pub recovers : Recovers volume base objects log
+  pub number : ℕ
+  pub is_held : IsHeld volume objects number
+  pub lower : (other : ℕ) → other < number → IsHeld volume objects other → HasCheckpoint volume objects other
+  pub refuses : RefusesHeld volume objects number error
+
+-- the error refuses what the store has: its objects, or the checkpoint of a hold
+abbrev pub IsRefusedThere : (volume : Expected) → Objects → RecoverError → Type 0
+IsRefusedThere volume objects error = IsRecoveryRefused volume objects error ⊎ IsHoldRefused volume objects error
 
 -- What a recovery is that was given the names of the volume's objects in the store: it gives the list, or an error, which has its
 -- reason in what the store has, where bytes are told. Nothing changes in the store, and a call of it that failed is counted once.
@@ -53,6 +71,6 @@ pub record RecoverOf (Tells : Type 0) (uuid : List ℕ) (geometry : Geometry) (o
     (result : Result RecoveredState RecoverError) : Type 0 where
   pub found : IfOk result (RecoveredOf Tells uuid geometry old.objects)
   pub refused : Tells → IfErr result (λ error. IfSome old.objects (λ objects.
-      IsRecoveryRefused (expected_of uuid geometry) objects error))
+      IsRefusedThere (expected_of uuid geometry) objects error))
   pub unchanged : OnlyCounts old new
   pub faults : Counts (ends_by_fault result) old.faults new.faults

@@ -1,5 +1,5 @@
 -- Contract: what the table of a recovered list knows of the objects of a store.
-use Rattle.std.specs.Prelude.{◌≡◌, ℕ, ◌<◌, ◌≤◌, ◌↔◌, false, nat_eq, IsTrue, is_some, option_map, Option, Some, None, IfSome, List}
+use Rattle.std.specs.Prelude.{◌≡◌, ℕ, ◌<◌, ◌≤◌, ◌↔◌, false, nat_eq, IsTrue, is_some, option_map, Some, None, IfSome, List}
 use Rattle.std.specs.Prelude.{length}
 use Rattle.std.specs.List.{All}
 use Rattle.lsvd_objstore.specs.Objects.{Objects, found}
@@ -14,6 +14,7 @@ use Rattle.ckpt_format.specs.Places.{stored_on}
 use Rattle.object_stream.specs.Replay.{object_name}
 use Rattle.object_stream.specs.Stream.{Owners, is_own}
 use Rattle.stopped_volume.specs.Expected.{expected_alone}
+use Rattle.stopped_volume.specs.Holds.{HasHeldCheckpoints, IsKept}
 use Rattle.stopped_volume.specs.Objects.{landed_in}
 use Rattle.stopped_volume.specs.Opening.{IsCheckpointOf}
 use Rattle.object_table.specs.declared.row.ObjectRow.{ObjectRow}
@@ -33,6 +34,11 @@ pub record HasTableFrom (checkpoint : ℕ) (queue : QueueState) : Type 0 where
   pub not_copied : All (λ (row : ObjectRow). row.is_copied ≡ false) queue.maps.objects.rows
   pub exact : queue.frontier ≡ checkpoint
       → All (λ (row : ObjectRow). row.number < checkpoint → row.is_unmapped ≡ nat_eq row.live 0) queue.maps.objects.rows
+
+-- so it is before any hold is read: none keeps an object yet
+pub record HasTableUnheld (checkpoint : ℕ) (queue : QueueState) : Type 0 where
+  pub table : HasTableFrom checkpoint queue
+  pub unheld : All (λ (row : ObjectRow). row.is_held ≡ false) queue.maps.objects.rows
 
 -- The object of a number is in the store: its header is that of a data object or a copy, with a payload of so many sectors.
 pub record HasPayloadThere (volume : Expected) (objects : Objects) (number payload : ℕ) : Type 0 where
@@ -63,6 +69,12 @@ pub record KnowsObjects (volume : Expected) (objects : Objects) (base : ℕ) (qu
       → (k : ℕ) (place : ObjectPlace) → settled_at queue.maps k ≡ Some place → place.number ≤ base
       → option_map mapped_place (place_at stored_on checkpoint.rows k) ≡ Some place
   pub payloads : ArePayloadsThere volume objects queue
+
+-- The table says of each object that it has whether a hold of the store keeps it; the store has the checkpoint of each hold.
+pub record KnowsHolds (volume : Expected) (objects : Objects) (queue : QueueState) : Type 0 where
+  pub checkpoints : HasHeldCheckpoints volume objects
+  pub says : (number : ℕ) → IfSome (row_of number queue.maps.objects.rows) (λ row.
+      IsTrue row.is_held ↔ IsKept volume objects number)
 
 -- The object of a place is in the store: its header is that of a data object or a copy, whose payload has such a place.
 pub record IsNamedThere (volume : Expected) (objects : Objects) (place : StoredPlace) : Type 0 where

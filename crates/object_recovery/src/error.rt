@@ -18,13 +18,14 @@ pub enum RecoverError {
     /// The object of this number, past the newest checkpoint, is bad, and none with a greater number is. Up
     /// to the first missing number an object is bad that is not of the grammar, or does not go on where the
     /// object before it ends, where that one is of the grammar by itself. Past the first missing number the
-    /// end before is not known.
+    /// end before is not known. Or no object is bad nor missing, and a hold names the object of this number,
+    /// which is no checkpoint.
     #[error("bad object {number}: {reason}")]
     BadObject { number: u64, reason: BadObject },
     /// No object is bad, and the newest checkpoint maps a sector to the one of this number, which does not
     /// have it there: it is absent, is no data object or copy of the grammar, or its payload has no such
-    /// place.
-    #[error("object {number} does not have what the newest checkpoint maps to it")]
+    /// place. Or a hold names the checkpoint of this number, which is absent.
+    #[error("object {number} is absent, or does not have what the newest checkpoint maps to it")]
     MissingObject { number: u64 },
     /// A call of the store failed, and was counted by it.
     #[error("the store failed")]

@@ -4,16 +4,18 @@
 //! Its contract: the list that is recovered is that of the stream whose objects the store has up to there,
 //! with the image that the entries in these make of the one that the newest checkpoint maps. An object past
 //! the newest checkpoint that is not of the grammar is refused, also past the first missing number; of
-//! several the one with the greatest number. Recovering changes nothing. After it, objects past the first
-//! missing number are removed, and no other is changed. A recovery that was stopped anywhere may be made
-//! again. It stands on `lsvd_objstore` for the store, on `object_format` and `ckpt_format` for the bytes of
-//! objects, and on `obj_log` for the list.
+//! several the one with the greatest number. What a hold of the volume keeps is marked in the list, and the
+//! checkpoint of a hold that is absent or not of the grammar is refused. Recovering changes nothing. After
+//! it, objects past the first missing number are removed, and no other is changed. A recovery that was
+//! stopped anywhere may be made again. It stands on `lsvd_objstore` for the store, on `object_format` and
+//! `ckpt_format` for the bytes of objects, and on `obj_log` for the list.
 #![tactic(auto)]
 
 mod adoption;
 mod beginning;
 mod checkpoint;
 mod error;
+mod holding;
 mod judging;
 mod laws;
 mod naming;

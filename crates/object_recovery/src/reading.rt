@@ -184,8 +184,8 @@ pub(crate) fn read_front<S: Store>(
     }
 }
 
-// The error that the expected object is bad.
-fn bad_object(expected: &Expected, reason: BadObject) -> RecoverError
+/// The error that the expected object is bad.
+pub(crate) fn bad_object(expected: &Expected, reason: BadObject) -> RecoverError
     ensures { result ≡ RecoverError.BadObject expected.now.number reason }
 {
     RecoverError::BadObject {

@@ -11,6 +11,7 @@ ghost use Rattle.object_recovery.specs.Faults.{ends_by_fault, IsNoAnswer};
 ghost use Rattle.object_recovery.specs.Adoption.{reached_by, ReachesGap, JudgesRest, RefusesRest};
 ghost use Rattle.object_recovery.specs.Adoption.{RefusesBeside, GoesOnOf, RecoverListOf};
 ghost use Rattle.object_recovery.specs.Checkpoints.{expected_of, IsReadCheckpoint};
+ghost use Rattle.object_recovery.specs.Holding.{HoldsOf};
 ghost use Rattle.object_recovery.specs.Places.{HasPlacesInside};
 ghost use Rattle.object_recovery.specs.Recovery.{IsListUpTo, IsRefusal};
 ghost use Rattle.object_recovery.specs.Recovering.{RecoverOf};
@@ -19,6 +20,7 @@ use crate::adoption::adopt_all;
 use crate::beginning::{Beginning, begin_list};
 use crate::checkpoint::{StoredCheckpoint, expected_alone, newest_checkpoint};
 use crate::error::RecoverError;
+use crate::holding::mark_held;
 use crate::judging::{Reached, judge_past, judge_to_gap};
 use crate::recovered::Recovered;
 use lsvd_base::Geometry;
@@ -31,9 +33,10 @@ use uuid::Uuid;
 
 /// Recovers the list of a volume with this uuid and these sizes, which are within the limits (a condition),
 /// from the objects that the store has of it: from the newest checkpoint on, each object up to the first
-/// missing number is counted as acknowledged. The store is only read: objects past that number are there
-/// until `Recovered::remove_past` removes them. No list takes an object of the number 2^64 - 1: where one
-/// goes on there, the list ends before it, and only then not before the first missing number.
+/// missing number is counted as acknowledged. What a hold keeps is marked in the list. The store is only
+/// read: objects past that number are there until `Recovered::remove_past` removes them. No list takes an
+/// object of the number 2^64 - 1: where one goes on there, the list ends before it, and only then not before
+/// the first missing number.
 ///
 /// The store is not listed: these are the names of all objects of the volume that it has (conditions), as
 /// its own listing gives them.
@@ -44,8 +47,10 @@ use uuid::Uuid;
 /// - `BadObject`: an object past the newest checkpoint is bad. That of the greatest number is told, with the
 ///   first reason for it. Up to the first missing number an object is to go on at the end of the one before
 ///   it, where that one is of the grammar by itself; past that number it is to be of the grammar by itself.
+///   Or a hold names the object of this number, and it is no checkpoint. Holds are judged last, by their
+///   ascending numbers.
 /// - `MissingObject`: none is bad, and the newest checkpoint maps a sector to the object of this number,
-///   which does not have it there.
+///   which does not have it there; or a hold names the checkpoint of this number, which is absent.
 /// - `StoreFault`: a call of the store failed, and was counted by it.
 /// - `OutOfMemory`: memory ran out.
 pub fn recover<S: Store>(
@@ -65,6 +70,7 @@ pub fn recover<S: Store>(
     let base = newest_checkpoint(alloc, store, &geometry, names.as_slice())?;
     let checkpoint = base.number;
     let log = recover_list(alloc, store, uuid, geometry, base, names.as_slice())?;
+    let log = with_held(alloc, store, log, names.as_slice())?;
     Ok(Recovered {
         log,
         checkpoint,
@@ -207,8 +213,29 @@ fn reach_gap<S: Store>(
     }
 }
 
-// What is expected of the objects of the volume of a list, but for their numbers and ends.
-fn expected_of_list<R: Receipt>(log: &ObjLog<R>) -> Expected
+// Marks in a list the objects that holds keep, where these are the names of all objects that there are.
+fn with_held<S: Store>(
+    alloc: Global,
+    store: &mut S,
+    log: ObjLog<S::Receipt>,
+    names: &[ObjName],
+) -> Result<ObjLog<S::Receipt>, RecoverError>
+    requires names { AreNamesOf log.uploads.uuid names.now }
+    ensures { HoldsOf (TellsBytes S.Receipt.state) log names.now (S.state store.old) (S.state store.new)
+        result }
+{
+    let mut log = log;
+    match mark_held(alloc, store, &mut log, names) {
+        Ok(()) => Ok(log),
+        Err(error) => {
+            drop(log);
+            Err(error)
+        }
+    }
+}
+
+/// What is expected of the objects of the volume of a list, but for their numbers and ends.
+pub(crate) fn expected_of_list<R: Receipt>(log: &ObjLog<R>) -> Expected
     ensures { result ≡ expected_of_volume log.now }
 {
     Expected {

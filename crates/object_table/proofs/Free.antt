@@ -65,20 +65,28 @@ passing test low number before more (first ∷ rows) order listed =
 
 -- ---- the object that may be removed
 
-free_parts : (row : ObjectRow) → is_free row ≡ true → IsTrue row.is_unmapped × (row.pins ≡ 0) × (row.is_copied ≡ false)
+free_parts : (row : ObjectRow) → is_free row ≡ true
+    → IsTrue row.is_unmapped × (row.pins ≡ 0) × (row.is_copied ≡ false) × (row.is_held ≡ false)
 free_parts row is =
-    let holds = and_parts (row.is_unmapped && nat_eq row.pins 0) (not row.is_copied) is in
-    let parts = and_parts row.is_unmapped (nat_eq row.pins 0) holds.0 in
-    let no_pins = parts.1 in
-    (parts.0, grind (arith, nat_tests, no_pins), not-true row.is_copied holds.1)
+    let kept = and_parts (row.is_unmapped && nat_eq row.pins 0 && not row.is_copied) (not row.is_held) is in
+    let taken = and_parts (row.is_unmapped && nat_eq row.pins 0) (not row.is_copied) kept.0 in
+    let parts = and_parts row.is_unmapped (nat_eq row.pins 0) taken.0 in
+    let no_pins = parts.1 in (
+      parts.0,
+      grind (arith, nat_tests, no_pins),
+      not-true row.is_copied taken.1,
+      not-true row.is_held kept.1,
+    )
 
 is_removed : (table : TableState) (number : ℕ) (removable : IsRemovable table number) → is_free removable.row ≡ true
 is_removed table number removable =
     let pins = removable.no_pins in
     let none : nat_eq removable.row.pins 0 ≡ true = grind (arith, nat_tests) in
-    and_from (removable.row.is_unmapped && nat_eq removable.row.pins 0) (not removable.row.is_copied)
-    (and_from removable.row.is_unmapped (nat_eq removable.row.pins 0) removable.unmapped none)
-    (not_from_false removable.row.is_copied removable.not_copied)
+    let row = removable.row in
+    and_from (row.is_unmapped && nat_eq row.pins 0 && not row.is_copied) (not row.is_held)
+    (and_from (row.is_unmapped && nat_eq row.pins 0) (not row.is_copied)
+    (and_from row.is_unmapped (nat_eq row.pins 0) removable.unmapped none) (not_from_false row.is_copied removable.not_copied))
+    (not_from_false row.is_held removable.not_held)
 
 pub lowest : (table : TableState) (dead free candidates : List ℕ)
     → IsListed table.checkpoint table.rows dead free candidates → IsLowestRemovable table (slice_get free 0)
@@ -97,6 +105,7 @@ lowest table dead (first ∷ rest) candidates listed =
         dead = stays.0;
         no_pins = parts.1;
         not_copied = parts.2;
+        not_held = parts.3;
       },
       λ number removable.
           first_is_lowest is_free 0 number first rest table.rows removable.row listed.order removable.stands

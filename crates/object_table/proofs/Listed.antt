@@ -337,9 +337,9 @@ pub listed_last : (checkpoint : ℕ) (row : ObjectRow) (rows : List ObjectRow) (
     → IsListed checkpoint (rows ++ row ∷ []) (dead ++ row.number ∷ []) free candidates
 listed_last checkpoint row rows dead free candidates some last none mapped listed =
     let dies : is_dead row ≡ true = rw (none, mapped) refl in
-    let not_free : is_free row ≡ false = ap (λ b. b && nat_eq row.pins 0 && not row.is_copied) mapped in
+    let not_free : is_free row ≡ false = ap (λ b. b && nat_eq row.pins 0 && not row.is_copied && not row.is_held) mapped in
     let not_candidate : is_candidate row ≡ false =
-    ap (λ live. nat_lt 0 live && nat_lt (live * 100) (70 * row.payload)) none in
+    ap (λ live. nat_lt 0 live && nat_lt (live * 100) (70 * row.payload) && not row.is_held) none in
     record {
       order = climbs_last 0 row rows some last listed.order;
       unmapped = stays_last checkpoint row rows (λ unmapped. absurd (true≢false (sym unmapped ∙ mapped))) listed.unmapped;

@@ -24,6 +24,7 @@ blank = record {
   pins = 0;
   is_copied = false;
   is_unmapped = false;
+  is_held = false;
 }
 
 pub above_row : (low : ℕ) (rows : List ObjectRow) (i : ℕ) (d : ObjectRow) → Climbs low (numbers rows) → i < length rows

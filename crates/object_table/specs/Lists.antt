@@ -31,9 +31,9 @@ relisted is_in number list = (if is_in then inserted number list else removed nu
 abbrev pub is_dead : ObjectRow → Bool
 is_dead row = nat_eq row.live 0 && not row.is_unmapped
 
--- the newest acknowledged checkpoint does not map an object, and nothing holds it
+-- the newest acknowledged checkpoint does not map an object, and no pin, no plan of a copy and no hold keeps it
 abbrev pub is_free : ObjectRow → Bool
-is_free row = row.is_unmapped && nat_eq row.pins 0 && not row.is_copied
+is_free row = row.is_unmapped && nat_eq row.pins 0 && not row.is_copied && not row.is_held
 
 -- an object that the newest acknowledged checkpoint does not map has a lower number and no live sector
 abbrev pub StaysUnmapped : (checkpoint : ℕ) → ObjectRow → Type 0

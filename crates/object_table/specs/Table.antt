@@ -1,6 +1,6 @@
 -- Contract: what a volume knows of its own objects that stand in the store, and which of them may be removed.
-use Rattle.std.specs.Prelude.{ℕ, ◌+◌, ◌-◌, ◌*◌, ◌<◌, ◌≤◌, ◌≡◌, Bool, false, IsTrue, ◌&&◌, nat_eq, nat_lt, if◌then◌else◌}
-use Rattle.std.specs.Prelude.{Option, Some, None, List, [], ◌∷◌, ◌++◌, map, find}
+use Rattle.std.specs.Prelude.{ℕ, ◌+◌, ◌-◌, ◌*◌, ◌<◌, ◌≤◌, ◌≡◌, Bool, true, false, not, IsTrue, ◌&&◌, nat_eq, nat_lt}
+use Rattle.std.specs.Prelude.{if◌then◌else◌, Option, Some, None, List, [], ◌∷◌, ◌++◌, map, find}
 use Rattle.std.specs.List.{All, filter}
 use Rattle.object_table.specs.declared.row.ObjectRow.{ObjectRow}
 
@@ -52,7 +52,7 @@ pub record IsNewest (table : TableState) (number : ℕ) : Type 0 where
 -- ---- which objects may be removed
 
 -- An object may be removed: the newest acknowledged checkpoint has a greater number, it does not map the object, no pin is on it,
--- and no plan of a copy takes sectors from it. So it is not that checkpoint, and no live sector is in it.
+-- no plan of a copy takes sectors from it, and no hold keeps it. So it is not that checkpoint, and no live sector is in it.
 pub record IsRemovable (table : TableState) (number : ℕ) : Type 0 where
   pub row : ObjectRow
   pub stands : row_of number table.rows ≡ Some row
@@ -61,6 +61,7 @@ pub record IsRemovable (table : TableState) (number : ℕ) : Type 0 where
   pub dead : row.live ≡ 0
   pub no_pins : row.pins ≡ 0
   pub not_copied : row.is_copied ≡ false
+  pub not_held : row.is_held ≡ false
 
 -- the lowest number that may be removed; none where there is no such number
 abbrev pub IsLowestRemovable : TableState → Option ℕ → Type 0
@@ -70,9 +71,10 @@ IsLowestRemovable table (Some lowest) =
 
 -- ---- which objects a collection may take sectors from
 
--- An object may be a victim: some sectors of the settled map are in it, and they are fewer than 70 in a hundred of its payload.
+-- An object may be a victim: some sectors of the settled map are in it, they are fewer than 70 in a hundred of its payload, and
+-- no hold keeps it.
 abbrev pub is_candidate : ObjectRow → Bool
-is_candidate row = nat_lt 0 row.live && nat_lt (row.live * 100) (70 * row.payload)
+is_candidate row = nat_lt 0 row.live && nat_lt (row.live * 100) (70 * row.payload) && not row.is_held
 
 -- their numbers, ascending
 abbrev pub candidates : List ObjectRow → List ℕ
@@ -98,11 +100,15 @@ unpinned row = record row { pins = row.pins - 1 }
 abbrev pub copied : (is_copied : Bool) → ObjectRow → ObjectRow
 copied is_copied row = record row { is_copied = is_copied }
 
+-- and once a hold keeps it
+abbrev pub held : ObjectRow → ObjectRow
+held row = record row { is_held = true }
+
 -- a table with the row of a number changed
 abbrev pub with_changed : (ObjectRow → ObjectRow) → ℕ → TableState → TableState
 with_changed change number table = record table { rows = changed change number table.rows }
 
--- an object is added: it has no live sector yet, no pin is on it, and no acknowledged checkpoint has passed it
+-- an object is added: it has no live sector yet, nothing holds it, and no acknowledged checkpoint has passed it
 abbrev pub new_row : (number payload front : ℕ) → ObjectRow
 new_row number payload front = record {
   number = number;
@@ -112,6 +118,7 @@ new_row number payload front = record {
   pins = 0;
   is_copied = false;
   is_unmapped = false;
+  is_held = false;
 }
 
 abbrev pub added : ObjectRow → TableState → TableState

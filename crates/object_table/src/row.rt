@@ -26,9 +26,11 @@ pub struct ObjectRow {
     pub is_copied: bool,
     /// Whether the newest acknowledged checkpoint has a greater number and does not map it.
     pub is_unmapped: bool,
+    /// Whether a hold keeps it: the held checkpoint itself, and what that maps.
+    pub is_held: bool,
 }
 
-// The row of an object without a live sector, that is not pinned, and that no acknowledged checkpoint has
+// The row of an object without a live sector, that nothing holds, and that no acknowledged checkpoint has
 // passed.
 pub(crate) fn new_row(number: u64, payload: u64, front: u64) -> ObjectRow
     ensures { result ≡ new_row number payload front }
@@ -41,6 +43,7 @@ pub(crate) fn new_row(number: u64, payload: u64, front: u64) -> ObjectRow
         pins: 0,
         is_copied: false,
         is_unmapped: false,
+        is_held: false,
     }
 }
 
@@ -51,18 +54,20 @@ pub(crate) fn is_dead(row: &ObjectRow) -> bool
     row.live == 0 && !row.is_unmapped
 }
 
-// Whether the newest acknowledged checkpoint does not map the object, and no pin is on it.
+// Whether the newest acknowledged checkpoint does not map the object, and nothing holds it.
 pub(crate) fn is_free(row: &ObjectRow) -> bool
     ensures { result ≡ is_free row.now }
 {
-    row.is_unmapped && row.pins == 0 && !row.is_copied
+    row.is_unmapped && row.pins == 0 && !row.is_copied && !row.is_held
 }
 
-// Whether a collection may take sectors from the object: it has live ones, and few for its payload.
+// Whether a collection may take sectors from the object: it has live ones, and few for its payload, and no
+// hold keeps it.
 pub(crate) fn is_candidate(row: &ObjectRow) -> bool
     ensures { result ≡ is_candidate row.now }
 {
-    row.live > 0 && u128::from(row.live) * WHOLE < MOST_LIVE * u128::from(row.payload)
+    let is_poor = u128::from(row.live) * WHOLE < MOST_LIVE * u128::from(row.payload);
+    row.live > 0 && is_poor && !row.is_held
 }
 
 // The place of the row of this number.

@@ -2,7 +2,8 @@ ghost use Rattle.std.specs.Prelude.{◌≡◌, ◌+◌, ◌<◌, ◌≤◌, ◌^
 ghost use Rattle.std.specs.Prelude.{vec_capacity, OnOk, IsOk, IfSome};
 ghost use Rattle.std.specs.List.{All};
 ghost use Rattle.object_table.specs.Table.{row_of, live_of, with_changed, without, IsNewest, gained, lost};
-ghost use Rattle.object_table.specs.Table.{pinned, unpinned, copied, new_row, added, passed, acknowledged};
+ghost use Rattle.object_table.specs.Table.{pinned, unpinned, copied, held, new_row, added, passed};
+ghost use Rattle.object_table.specs.Table.{acknowledged};
 ghost use Rattle.object_table.specs.Table.{IsLowestRemovable, candidates, numbers};
 ghost use Rattle.object_table.specs.Lists.{Climbs, IsListed, KeepsUnmapped, with_row};
 
@@ -194,6 +195,17 @@ impl ObjectTable {
         }
     }
 
+    /// A hold keeps an object from now on: it is not removed, and no collection takes sectors from it. One
+    /// that is absent changes nothing. It takes no memory.
+    pub fn hold(&mut self, number: u64)
+        ensures { self.new ≡ with_changed held number self.old }
+    {
+        if let Some(mut row) = self.row(number) {
+            row.is_held = true;
+            self.put_row(row);
+        }
+    }
+
     /// A checkpoint is acknowledged, and is added. It maps just the objects that have a live sector now: it
     /// was put when all with lower numbers were settled. The conditions are those of `add`. Only the objects
     /// are looked at that lost their last live sector since the checkpoint before, and it takes no memory.
@@ -208,8 +220,8 @@ impl ObjectTable {
     }
 
     /// The lowest number of an object that may be removed: the newest acknowledged checkpoint has a greater
-    /// number and does not map it, it is not pinned, and no plan of a copy takes sectors from it. None is
-    /// where there is no such object.
+    /// number and does not map it, it is not pinned, no plan of a copy takes sectors from it, and no hold
+    /// keeps it. None is where there is no such object.
     pub fn removable(&self) -> Option<u64>
         ensures { IsLowestRemovable self.now result }
     {
@@ -217,8 +229,8 @@ impl ObjectTable {
     }
 
     /// The numbers of the objects that a collection may take sectors from, ascending: those with a live
-    /// sector whose live sectors are fewer than 70 in a hundred of their payload. It looks at no other
-    /// object.
+    /// sector whose live sectors are fewer than 70 in a hundred of their payload, and that no hold keeps. It
+    /// looks at no other object.
     pub fn candidates(&self) -> &[u64]
         ensures value { result.now ≡ candidates self.now.rows }
 

@@ -129,7 +129,7 @@ dead_passed next old new same number dead =
 
 -- an object but for what holds it
 abbrev pub but_held : ObjectRow → ObjectRow
-but_held row = record row { pins = 0; is_copied = false }
+but_held row = record row { pins = 0; is_copied = false; is_held = false }
 
 -- and when that changes
 pub dead_pinned : (change : ObjectRow → ObjectRow) (changes : ℕ) (old new : MapsState)

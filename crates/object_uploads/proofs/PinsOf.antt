@@ -7,7 +7,7 @@ use Rattle.object_table.specs.Table.{TableState, row_of, changed}
 use Rattle.object_uploads.specs.State.{UploadsState}
 use Rattle.object_uploads.specs.Queue.{pins_of}
 use Rattle.object_uploads.specs.Order.{IsUploads}
-use Rattle.object_uploads.specs.Removal.{HasChangedPins, ChangesPinsEach}
+use Rattle.object_uploads.specs.Removal.{HasChangedRow, ChangesPinsEach}
 
 -- ---- one object
 
@@ -25,7 +25,7 @@ row_changed change number other (row ∷ rows) keeps =
 -- the pins of another object stay
 pub other_pins : (change : ObjectRow → ObjectRow) (number other : ℕ) (old new : UploadsState)
     → ((row : ObjectRow) → (change row).number ≡ row.number) → (number == other) ≡ false
-    → HasChangedPins change number old new
+    → HasChangedRow change number old new
     → pins_of (row_of other new.queue.maps.objects.rows) ≡ pins_of (row_of other old.queue.maps.objects.rows)
 other_pins change number other old new keeps differ changes =
     let rows = old.queue.maps.objects.rows in

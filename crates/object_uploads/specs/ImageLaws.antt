@@ -21,7 +21,7 @@ use Rattle.object_uploads.specs.State.{QueueState, UploadsState}
 use Rattle.object_uploads.specs.Queue.{IsEntered, is_copy}
 use Rattle.object_uploads.specs.Order.{IsUploads}
 use Rattle.object_uploads.specs.Changes.{IsSealedNext, IsNotSealed, with_job, IsOut, IsPutDone, IsAdopted}
-use Rattle.object_uploads.specs.Removal.{HasChangedPins, TakesRemoval, FinishesRemoval, TakesBackRemoval}
+use Rattle.object_uploads.specs.Removal.{HasChangedRow, TakesRemoval, FinishesRemoval, TakesBackRemoval}
 use Rattle.object_uploads.specs.Collection.{with_copied_all}
 use Rattle.object_uploads.specs.Stream.{HoldsEntries, HoldsCopy, AreOfStream}
 use Rattle.object_uploads.specs.Image.{HasImage, IsReceiptFor, HasOwnReceipts, TellAlike, HasLiveSectors, IsCopied, AreCopied}
@@ -73,7 +73,7 @@ abbrev pub PinsKeepImage : Type 0
 PinsKeepImage =
     (change : ObjectRow → ObjectRow) (number : ℕ) (old new : UploadsState)
     → ((row : ObjectRow) → ((change row).front ≡ row.front) × ((change row).number ≡ row.number))
-    → HasChangedPins change number old new → KeepsImage old.queue new.queue
+    → HasChangedRow change number old new → KeepsImage old.queue new.queue
 
 -- while objects are marked as those that a plan of a copy takes sectors from
 abbrev pub MarksKeepImage : Type 0

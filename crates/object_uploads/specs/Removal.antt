@@ -18,10 +18,10 @@ pub record IsSameButObjects (old new : UploadsState) : Type 0 where
   pub settled : new.queue.maps.settled ≡ old.queue.maps.settled
   pub log : new.queue.maps.log ≡ old.queue.maps.log
 
--- ---- pins
+-- ---- pins and holds
 
--- the object of a number was pinned once more, or once less
-pub record HasChangedPins (change : ObjectRow → ObjectRow) (number : ℕ) (old new : UploadsState) : Type 0 where
+-- the row of a number was changed so: its object was pinned once more or once less, or a hold keeps it from now on
+pub record HasChangedRow (change : ObjectRow → ObjectRow) (number : ℕ) (old new : UploadsState) : Type 0 where
   pub rest : IsSameButObjects old new
   pub receipts : new.queue.receipts ≡ old.queue.receipts
   pub removal : new.queue.removal ≡ old.queue.removal
@@ -31,7 +31,7 @@ pub record HasChangedPins (change : ObjectRow → ObjectRow) (number : ℕ) (old
 abbrev pub ChangesPinsEach : (change : ObjectRow → ObjectRow) → List ℕ → (old new : UploadsState) → Type 0
 ChangesPinsEach change [] old new = new ≡ old
 ChangesPinsEach change (number ∷ numbers) old new =
-    (middle : UploadsState) × HasChangedPins change number old middle × IsUploads middle
+    (middle : UploadsState) × HasChangedRow change number old middle × IsUploads middle
     × ChangesPinsEach change numbers middle new
 
 -- each of them was pinned once more, and once less

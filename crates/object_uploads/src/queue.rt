@@ -6,7 +6,7 @@ ghost use Rattle.std.specs.VecDeque.{deque_len, deque_capacity};
 ghost use Rattle.lsvd_base.specs.Laws.{first_sector, sector_count};
 ghost use Rattle.extent_map.specs.Extents.{place_at, place_after_set};
 ghost use Rattle.object_table.specs.Table.{row_of, without, new_row, acknowledged, with_changed, pinned};
-ghost use Rattle.object_table.specs.Table.{unpinned, IsNewest};
+ghost use Rattle.object_table.specs.Table.{unpinned, held, IsNewest};
 ghost use Rattle.gc_copier.specs.Plan.{all_seen, numbers_of};
 ghost use Rattle.volume_maps.specs.Places.{log_number, row_left_by, object_on};
 ghost use Rattle.volume_maps.specs.Maps.{settled_at};
@@ -381,6 +381,17 @@ impl<R: Receipt> Queue<R> {
         ensures known { IsKnown self.new }
     {
         self.maps.unpin(number);
+    }
+
+    // A hold keeps an object from now on; one that is not known changes nothing.
+    pub(crate) fn hold(&mut self, number: u64)
+        ensures rest { KeepsAllButObjects self.old self.new }
+        ensures receipts { self.new.receipts ≡ self.old.receipts }
+        ensures removal { self.new.removal ≡ self.old.removal }
+        ensures objects { self.new.maps.objects ≡ with_changed held number self.old.maps.objects }
+        ensures known { IsKnown self.new }
+    {
+        self.maps.hold(number);
     }
 
     // A plan of a copy takes sectors from these, or takes none any longer. One that is not known changes

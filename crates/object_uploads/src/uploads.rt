@@ -6,7 +6,7 @@ ghost use Rattle.lsvd_base.specs.Laws.{first_sector, sector_count};
 ghost use Rattle.lsvd_names.specs.Names.{numbered_name};
 ghost use Rattle.extent_map.specs.Extents.{place_at, place_in_range, IsShortest, AllFit};
 ghost use Rattle.gc_copier.specs.Plan.{numbers_of};
-ghost use Rattle.object_table.specs.Table.{row_of, pinned, unpinned, candidates, IsNewest};
+ghost use Rattle.object_table.specs.Table.{row_of, pinned, unpinned, held, candidates, IsNewest};
 ghost use Rattle.upload_window.specs.Window.{lowest_ready, IsFrontier};
 ghost use Rattle.volume_maps.specs.Places.{volume_on, volume_number, log_number, row_left_by};
 ghost use Rattle.volume_maps.specs.Maps.{volume_place_at};
@@ -22,7 +22,7 @@ ghost use Rattle.object_uploads.specs.Changes.{index_of, IsSealedNext, IsNotSeal
 ghost use Rattle.object_uploads.specs.Changes.{IsPutDone, IsAdopted};
 ghost use Rattle.object_uploads.specs.Checkpoint.{expected_next, HasSealedCheckpoint};
 ghost use Rattle.object_uploads.specs.Removal.{IsRemovedNext, TakesRemoval, FinishesRemoval};
-ghost use Rattle.object_uploads.specs.Removal.{TakesBackRemoval, HasChangedPins};
+ghost use Rattle.object_uploads.specs.Removal.{TakesBackRemoval, HasChangedRow};
 ghost use Rattle.object_uploads.specs.Opening.{HasFound, HasMapped, HasBegun};
 ghost use Rattle.object_uploads.specs.Collection.{ArePlacesInside, HasPlanned, with_copied_all};
 ghost use Rattle.object_uploads.specs.Image.{TellAlike};
@@ -302,7 +302,7 @@ impl<R: Receipt> Uploads<R> {
     /// fewer than 2^64 - 1 pins (a condition). It takes no memory.
     pub fn pin(&mut self, number: u64)
         requires { IfSome (row_of number self.old.queue.maps.objects.rows) (λ row. row.pins + 1 < 2 ^ 64) }
-        ensures pinned { HasChangedPins pinned number self.old self.new }
+        ensures pinned { HasChangedRow pinned number self.old self.new }
         ensures order { IsUploads self.old }
         ensures order_after { IsUploads self.new }
     {
@@ -313,11 +313,21 @@ impl<R: Receipt> Uploads<R> {
     /// caller (a condition). It takes no memory.
     pub fn unpin(&mut self, number: u64)
         requires { IfSome (row_of number self.old.queue.maps.objects.rows) (λ row. 0 < row.pins) }
-        ensures unpinned { HasChangedPins unpinned number self.old self.new }
+        ensures unpinned { HasChangedRow unpinned number self.old self.new }
         ensures order { IsUploads self.old }
         ensures order_after { IsUploads self.new }
     {
         self.queue.unpin(number);
+    }
+
+    /// A hold keeps an object from now on: it is not removed, and no collection takes sectors from it. One
+    /// that is not known changes nothing. It takes no memory.
+    pub fn hold(&mut self, number: u64)
+        ensures held { HasChangedRow held number self.old self.new }
+        ensures order { IsUploads self.old }
+        ensures order_after { IsUploads self.new }
+    {
+        self.queue.hold(number);
     }
 
     /// Whether there are objects that a collection may take sectors from. It takes no memory.

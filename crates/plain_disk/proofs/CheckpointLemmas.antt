@@ -322,11 +322,27 @@ removable_is_unneeded state number is =
     let gone = has state.removed number in
     let below = nat_lt number state.checkpoint.number in
     let copied = copies_from state.plan number in
-    let free = both_true (below && not mapped && not pinned && not copied) (not gone) is in
+    let held = has state.held number in
+    let there = both_true (below && not mapped && not pinned && not copied && not held) (not gone) is in
+    let free = both_true (below && not mapped && not pinned && not copied) (not held) there.0 in
     let uncopied = both_true (below && not mapped && not pinned) (not copied) free.0 in
     let unpinned = both_true (below && not mapped) (not pinned) uncopied.0 in
     let both = both_true below (not mapped) unpinned.0 in
     record { before = below_by number state.checkpoint.number both.0; unmapped = not_mapped mapped both.1 }
+
+-- no hold keeps what may be removed
+pub removable_is_not_held : (state : PlainState) (number : ℕ) → is_removable state number ≡ true
+    → has state.held number ≡ false
+removable_is_not_held state number is =
+    let held = has state.held number in
+    let first =
+    nat_lt number state.checkpoint.number && not (maps state.checkpoint number) && not (has state.pins number)
+    && not (copies_from state.plan number) in
+    not_mapped held (both_true first (not held) (both_true (first && not held) (not (has state.removed number)) is).0).1
+
+pub none_of_both : (a b : Bool) → (a || b) ≡ false → (a ≡ false) × (b ≡ false)
+none_of_both true b is = let bad : ⊥ = cc in absurd bad
+none_of_both false b is = (refl, is)
 
 pub either_true : (a b : Bool) → (a || b) ≡ true → (a ≡ true) ⊎ (b ≡ true)
 either_true true b is = inl refl

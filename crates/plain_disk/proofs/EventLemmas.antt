@@ -37,7 +37,7 @@ use Rattle.plain_disk.specs.State.{PlainState, PlainCheckpoint, created_volume, 
 use Rattle.plain_disk.specs.State.{frontier_end, unsealed_entries}
 use Rattle.plain_disk.specs.Checkpoints.{checkpoint_at, is_started_checkpoint}
 use Rattle.plain_disk.specs.Collection.{planned_copy, with_plan, with_copy, after_sealed_copy}
-use Rattle.plain_disk.specs.Removals.{is_removable, to_remove, with_removal, after_take_remove, is_out, after_remove_done}
+use Rattle.plain_disk.specs.Removals.{has, is_removable, to_remove, with_removal, after_take_remove, is_out, after_remove_done}
 use Rattle.plain_disk.specs.Removals.{after_remove_failed}
 use Rattle.plain_disk.specs.Entries.{batch_refusal, has_room_for, commits_for_room, cache_for, commits_are_made, comes_to_log}
 use Rattle.plain_disk.specs.Entries.{after_entering, after_flush}
@@ -46,11 +46,12 @@ use Rattle.plain_disk.specs.Reads.{after_plan_release}
 use Rattle.plain_disk.specs.Objects.{sealed_count, is_busy, has_unsealed, end_of_next, after_seal, after_seal_checkpoint}
 use Rattle.plain_disk.specs.Objects.{window_after_take, after_take, after_done, after_failed}
 use Rattle.plain_disk.specs.Valid.{IsUnneeded, IsPlainCheckpoint, BeginsAfterLower, IsPlainLog, IsPlainVolume}
-use Rattle.plain_disk.specs.Valid.{CreatedIsPlainVolume, EventsKeepPlainVolume}
+use Rattle.plain_disk.specs.Valid.{IsKeptByHold, CreatedIsPlainVolume, EventsKeepPlainVolume}
 use Rattle.plain_disk.proofs.EndLemmas.{ends_grow, below_from, frontier_is_sealed, ends_within, ends_from, frontier_ends}
 use Rattle.plain_disk.proofs.FoldLemmas.{owners_of_first}
 use Rattle.plain_disk.proofs.CheckpointLemmas.{any_weaker, both_true, Begins, started_is_lowest, later_is}
-use Rattle.plain_disk.proofs.CheckpointLemmas.{same_checkpoint, removable_is_unneeded}
+use Rattle.plain_disk.proofs.CheckpointLemmas.{same_checkpoint, removable_is_unneeded, removable_is_not_held}
+use Rattle.plain_disk.proofs.CheckpointLemmas.{none_of_both}
 use Rattle.plain_disk.proofs.CommitLemmas.{log_with_later_end, record_keeps, IsLogOf, either, commit_keeps}
 
 -- ---- created
@@ -83,6 +84,7 @@ created_is g limits =
       opened = omega arith;
       begun = All-nil (λ object. IsTrue (object.was_started && object.is_checkpoint) → object.number ≤ 1 + 1);
       checkpoint = created_checkpoint g;
+      held = All-nil (IsKeptByHold 1 []);
       log = record {
         counted = omega arith;
         room = record { limit = size.1; head = size.0; used = omega arith };
@@ -114,6 +116,7 @@ cache_keeps state cache pins h log = record {
   opened = h.opened;
   begun = h.begun;
   checkpoint = h.checkpoint;
+  held = h.held;
   log = log.1;
   size = log.0;
 }
@@ -173,6 +176,7 @@ entry_keeps state cache entry h range log =
       begun = h.begun;
       checkpoint = same_checkpoint (stream_in state) (state.entries ++ entry ∷ []) state.objects (frontier_of state)
           (frontier_of state) state.given_out state.checkpoint h.checkpoint (omega arith) owned;
+      held = h.held;
       log = subst (λ n. IsPlainLog (frontier_end state) n cache.log) (sym count) log.1;
       size = log.0;
     }
@@ -232,6 +236,13 @@ entering_keeps state entry h =
 
 -- ---- the window changes
 
+-- what holds keep is not past a later frontier either
+held_later : (frontier later : ℕ) (given_out held : List ℕ) → frontier ≤ later
+    → All (IsKeptByHold frontier given_out) held → All (IsKeptByHold later given_out) held
+held_later frontier later given_out held from =
+    All-weaker (IsKeptByHold frontier given_out) (IsKeptByHold later given_out)
+    (λ number kept. record { acknowledged = omega (arith, from, kept.acknowledged); kept = kept.kept }) held
+
 window_keeps : (state : PlainState) (window : WindowState) (checkpoint : PlainCheckpoint) → IsPlainVolume state → IsWindow window
     → BeginsAfterLower window → window.last ≡ state.window.last → frontier_of state ≤ below_open window
     → IsPlainCheckpoint (stream_in state) (below_open window) state.given_out checkpoint
@@ -251,6 +262,7 @@ window_keeps state window checkpoint h is begun last from newest =
       opened = omega (arith, h.opened);
       begun = begun;
       checkpoint = newest;
+      held = held_later (frontier_of state) (below_open window) state.given_out state.held from h.held;
       log = log_with_later_end (frontier_end state) (end_at (stream_in state) (below_open window)) (history_length state)
           state.cache.log end h.log;
       size = h.size;
@@ -615,6 +627,8 @@ sealed_keeps state object is_checkpoint h goes inside =
       checkpoint = same_checkpoint (stream_in state) state.entries objects (frontier_of state)
           (below_lowest (state.window.objects ++ opened ∷ []) (state.window.last + 1)) state.given_out state.checkpoint
           h.checkpoint (omega (arith, below)) owned;
+      held = held_later (frontier_of state) (below_lowest (state.window.objects ++ opened ∷ []) (state.window.last + 1))
+          state.given_out state.held (omega (arith, below)) h.held;
       log = subst (λ n. IsPlainLog n (history_length state) state.cache.log) (sym end) h.log;
       size = h.size;
     }
@@ -647,10 +661,37 @@ seal_checkpoint_keeps state h =
 
 -- ---- a removal
 
+apart_too : (a b : ℕ) → eqb b a ≡ false → eqb a b ≡ false
+apart_too a b is = grind (arith, nat_tests)
+
+-- what holds keep is not given out with one that no hold keeps
+given_with_other : (given_out : List ℕ) (number other : ℕ) → eqb other number ≡ false → has given_out other ≡ false
+    → has (given_out ++ number ∷ []) other ≡ false
+given_with_other [] number other apart none = ap (λ b. b || false) (apart_too number other apart)
+given_with_other (first ∷ rest) number other apart none =
+    elim (eqb first other) as (λ b. (b || has rest other) ≡ false → (b || has (rest ++ number ∷ []) other) ≡ false) [
+      | true ↦ λ bad. bad
+      | false ↦ given_with_other rest number other apart
+    ] none
+
+held_kept : (frontier : ℕ) (given_out : List ℕ) (number : ℕ) (held : List ℕ) → has held number ≡ false
+    → All (IsKeptByHold frontier given_out) held → All (IsKeptByHold frontier (given_out ++ number ∷ [])) held
+held_kept frontier given_out number [] none all = All-nil (IsKeptByHold frontier (given_out ++ number ∷ []))
+held_kept frontier given_out number (first ∷ rest) none all =
+    let P = IsKeptByHold frontier given_out in
+    let kept = All-head P first rest all in
+    let parts = none_of_both (eqb first number) (has rest number) none in
+    All-cons (IsKeptByHold frontier (given_out ++ number ∷ [])) first rest (record {
+      acknowledged = kept.acknowledged;
+      kept = given_with_other given_out number first parts.0 kept.kept;
+    })
+    (held_kept frontier given_out number rest parts.1 (All-tail P first rest all))
+
 removals_keep : (state : PlainState) (removed given_out : List ℕ) (removal : Option ℕ) → IsPlainVolume state
     → All (IsUnneeded state.checkpoint) given_out
+    → All (IsKeptByHold (frontier_of state) given_out) state.held
     → IsPlainVolume (record state { removed = removed; given_out = given_out; removal = removal })
-removals_keep state removed given_out removal h unneeded = record {
+removals_keep state removed given_out removal h unneeded held = record {
   limits = h.limits;
   sectors = h.sectors;
   owned = h.owned;
@@ -668,6 +709,7 @@ removals_keep state removed given_out removal h unneeded = record {
     still = h.checkpoint.still;
     unneeded = unneeded;
   };
+  held = held;
   log = h.log;
   size = h.size;
 }
@@ -680,6 +722,8 @@ removing_keeps state None (Some number) is h =
     removals_keep state state.removed (state.given_out ++ number ∷ []) (Some number) h
     (All-push (IsUnneeded state.checkpoint) state.given_out number h.checkpoint.unneeded
     (removable_is_unneeded state number (found_by (is_removable state) 1 (state.checkpoint.number - 1) number is).0))
+    (held_kept (frontier_of state) state.given_out number state.held
+    (removable_is_not_held state number (found_by (is_removable state) 1 (state.checkpoint.number - 1) number is).0) h.held)
 
 pub take_remove_keeps : (state : PlainState) → IsPlainVolume state → IsPlainVolume (after_take_remove state)
 take_remove_keeps state h = removing_keeps state state.removal (to_remove state) refl h
@@ -688,13 +732,13 @@ pub remove_done_keeps : (state : PlainState) (number : ℕ) → IsPlainVolume st
 remove_done_keeps state number h =
     either_state IsPlainVolume (is_out number state.removal)
     (record state { removed = state.removed ++ number ∷ []; removal = None }) state
-    (removals_keep state (state.removed ++ number ∷ []) state.given_out None h h.checkpoint.unneeded) h
+    (removals_keep state (state.removed ++ number ∷ []) state.given_out None h h.checkpoint.unneeded h.held) h
 
 pub remove_failed_keeps : (state : PlainState) (number : ℕ) → IsPlainVolume state
     → IsPlainVolume (after_remove_failed number state)
 remove_failed_keeps state number h =
     either_state IsPlainVolume (is_out number state.removal) (record state { removal = None }) state
-    (removals_keep state state.removed state.given_out None h h.checkpoint.unneeded) h
+    (removals_keep state state.removed state.given_out None h h.checkpoint.unneeded h.held) h
 
 -- ---- a copy
 
@@ -713,6 +757,7 @@ plans_keep state plan h = record {
   opened = h.opened;
   begun = h.begun;
   checkpoint = h.checkpoint;
+  held = h.held;
   log = h.log;
   size = h.size;
 }

@@ -31,6 +31,7 @@ use Rattle.plain_disk.specs.State.{PlainState, PlainCheckpoint, stream_in, histo
 use Rattle.plain_disk.specs.State.{logged_entries}
 use Rattle.plain_disk.specs.State.{unsealed_entries, payloads_in, folded_to}
 use Rattle.plain_disk.specs.Objects.{is_busy}
+use Rattle.plain_disk.specs.Removals.{has}
 use Rattle.plain_disk.specs.Entries.{reply_of_full, has_room_for, enter_reply}
 use Rattle.plain_disk.specs.Reads.{objects_read, look_reply}
 use Rattle.object_stream.specs.Planned.{copied_from}
@@ -139,9 +140,10 @@ count_by sectors owned number = length (live_by sectors owned number)
 abbrev payload_in : List ℕ → (number : ℕ) → ℕ
 payload_in payloads number = get_or (0 ∷ payloads) number 0
 
-abbrev is_victim_by : (sectors : ℕ) → Owners → List ℕ → (number : ℕ) → Bool
-is_victim_by sectors owned payloads number =
+abbrev is_victim_by : (sectors : ℕ) → Owners → (payloads held : List ℕ) → (number : ℕ) → Bool
+is_victim_by sectors owned payloads held number =
     nat_lt 0 (count_by sectors owned number) && nat_lt (count_by sectors owned number * 100) (70 * payload_in payloads number)
+    && not (has held number)
 
 abbrev before_by : (sectors : ℕ) → Owners → List ℕ → (number other : ℕ) → Bool
 before_by sectors owned payloads number other =
@@ -149,15 +151,15 @@ before_by sectors owned payloads number other =
     || (eqb (count_by sectors owned number * payload_in payloads other)
     (count_by sectors owned other * payload_in payloads number) && nat_lt number other)
 
-abbrev copy_by : (batch sectors frontier : ℕ) → Owners → List ℕ → List CopiedSector
-copy_by batch sectors frontier owned payloads =
+abbrev copy_by : (batch sectors frontier : ℕ) → (held : List ℕ) → Owners → (payloads : List ℕ) → List CopiedSector
+copy_by batch sectors frontier held owned payloads =
     take batch (flat_map (λ number. map (copied_from number) (live_by sectors owned number))
-    (in_order (before_by sectors owned payloads) (filter (is_victim_by sectors owned payloads) (range_with_len 1 frontier))))
+    (in_order (before_by sectors owned payloads) (filter (is_victim_by sectors owned payloads held) (range_with_len 1 frontier))))
 
 pub planned_of_fold : (state : PlainState) (number : ℕ) → MayFold state number
     → planned_copy (folded_to number state) ≡ planned_copy state
 planned_of_fold state number h =
-    let at = copy_by state.geometry.batch state.geometry.sectors (frontier_of state) in
+    let at = copy_by state.geometry.batch state.geometry.sectors (frontier_of state) state.held in
     ap (λ (owned : Owners). at owned (payloads_in (folded_to number state)))
     (owners_of_fold state number h (frontier_of state) h.to)
     ∙ ap (λ (payloads : List ℕ). at (owners (stream_in state) (frontier_of state)) payloads) (payloads_of_fold state number h)

@@ -110,6 +110,7 @@ fold_is state number h =
       opened = h.to;
       begun = was.begun;
       checkpoint = checkpoint_of_fold state number h;
+      held = was.held;
       log = subst₂ (λ e c. IsPlainLog e c state.cache.log) (sym (frontier_end_of_fold state number h)) (sym count) was.log;
       size = was.size;
     }

@@ -24,7 +24,7 @@ use Rattle.plain_disk.proofs.CheckpointLemmas.{landed_from, same_number}
 use Rattle.plain_disk.proofs.FoldLemmas.{MayFold, count_of_fold, frontier_end_of_fold}
 use Rattle.plain_disk.proofs.FoldMountLemmas.{cut_of_fold}
 use Rattle.plain_disk.proofs.FoldVolumeLemmas.{folding_keeps}
-use Rattle.plain_disk.proofs.MountLemmas.{cut_is, newest_is_found, cut_count, cut_end, from_is, on_is}
+use Rattle.plain_disk.proofs.MountLemmas.{cut_is, newest_is_found, held_is_found, cut_count, cut_end, from_is, on_is}
 use Rattle.plain_disk.proofs.StopLemmas.{last_is_later, have_landed, recovers_base, recovers_sealed}
 use Rattle.plain_disk.proofs.StopLemmas.{recovers_end, recovers_within, base_has_landed, base_is_lowest}
 
@@ -40,7 +40,8 @@ module _ (landed : Numbers) (state : PlainState) (h : Finds landed state) where
       let count = history_length state in
       cut_is state (recovered_number landed state) count (landed_checkpoint landed state) (absent_of landed state.given_out)
       state.cache h.valid (omega (arith, base_from, recovers_base state landed)) (recovers_sealed state landed h.valid)
-      (recovers_within state landed h.valid) (omega arith) (newest_is_found state landed h.valid) h.valid.size
+      (recovers_within state landed h.valid) (omega arith) (newest_is_found state landed h.valid)
+      (held_is_found state landed h.valid h.may) h.valid.size
       (log_with_later_end (frontier_end state) (recovered_end landed state) count state.cache.log
       (recovers_end state landed h.valid h.may) h.valid.log)
 

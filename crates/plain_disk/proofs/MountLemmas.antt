@@ -1,10 +1,11 @@
 -- A mount of the plain volume, with its cache or without it, gives a plain volume.
 use Rattle.std.proofs.Common.{arith, ℕ, ◌+◌, ◌-◌, ◌^◌, ◌<◌, ◌≤◌, ◌≡◌, Bool, true, not, ◌&&◌, None, List, length, take, drop, max}
-use Rattle.std.proofs.Common.{length-drop, refl, sym, ◌∙◌, ap, subst₂}
+use Rattle.std.proofs.Common.{false, eqb, [], ◌∷◌, cond, length-drop, refl, sym, ◌∙◌, ap, subst₂}
 use Rattle.std.proofs.lemmas.List.{length-take, take-take}
-use Rattle.std.proofs.lemmas.List.Elements.{All-nil, All-take, All-filter}
+use Rattle.std.proofs.lemmas.List.Elements.{All-nil, All-take, All-filter, All-weaker}
 use Rattle.std.proofs.lemmas.List.Sums.{sum_by-take-le}
 use Rattle.std.specs.Prelude.{IsTrue}
+use Rattle.std.specs.List.{All}
 use Rattle.lsvd_base.specs.declared.entry.Entry.{Entry}
 use Rattle.lsvd_base.specs.Limits.{is_within_limits}
 use Rattle.lsvd_base.specs.Range.{is_in_range}
@@ -15,18 +16,18 @@ use Rattle.plain_disk.specs.declared.log.PlainCommit.{PlainCommit}
 use Rattle.plain_disk.specs.declared.log.PlainRecord.{PlainRecord}
 use Rattle.plain_disk.specs.Log.{PlainLog, commit_from, records_from, mounted_log, empty_from}
 use Rattle.plain_disk.specs.Cache.{PlainCache, cache_with, kept_commit}
-use Rattle.plain_disk.specs.State.{PlainState, PlainCheckpoint, stream_in, history_length, frontier_end}
+use Rattle.plain_disk.specs.State.{PlainState, PlainCheckpoint, stream_in, history_length, frontier_of, frontier_end}
 use Rattle.plain_disk.specs.Checkpoints.{landed_checkpoint}
-use Rattle.plain_disk.specs.Removals.{absent_of}
+use Rattle.plain_disk.specs.Removals.{has, absent_of}
 use Rattle.plain_disk.specs.Stops.{recovered_number, recovered_end, kept_count, cut_to_count, mounted_from, mounted_kept}
 use Rattle.plain_disk.specs.Stops.{mounted_lost, mounted_on}
 use Rattle.plain_disk.specs.Valid.{IsUnneeded, IsPlainCheckpoint, IsCommitWithin, IsLaterCommit, IsPlainLog, IsPlainVolume}
-use Rattle.plain_disk.specs.Valid.{MayLand, MountsKeepPlainVolume, MountsCommitEntries}
+use Rattle.plain_disk.specs.Valid.{IsKeptByHold, MayLand, MountsKeepPlainVolume, MountsCommitEntries}
 use Rattle.plain_disk.proofs.EndLemmas.{ends_from}
 use Rattle.plain_disk.proofs.EventLemmas.{log_has_sectors}
 use Rattle.plain_disk.proofs.CommitLemmas.{past_count, past_used, left_used}
 use Rattle.plain_disk.proofs.FoldLemmas.{owners_of_cut}
-use Rattle.plain_disk.proofs.CheckpointLemmas.{same_checkpoint, landed_is}
+use Rattle.plain_disk.proofs.CheckpointLemmas.{same_checkpoint, landed_is, none_of_both}
 use Rattle.plain_disk.proofs.StopLemmas.{kept_is_later, recovers_frontier, recovers_base, recovers_sealed, recovers_end}
 use Rattle.plain_disk.proofs.StopLemmas.{recovers_within}
 
@@ -85,6 +86,7 @@ pub cut_is : (state : PlainState) (number count : ℕ) (checkpoint : PlainCheckp
     → IsPlainVolume state → state.number ≤ number → number ≤ last_number (stream_in state)
     → end_at (stream_in state) number ≤ count → count ≤ history_length state
     → IsPlainCheckpoint (stream_in state) number gone checkpoint
+    → All (IsKeptByHold number gone) state.held
     → cache.log.size ≡ state.geometry.log → IsPlainLog (end_at (stream_in state) number) count cache.log
     → IsPlainVolume (record (cut_to_count number count state) {
       checkpoint = checkpoint;
@@ -92,7 +94,7 @@ pub cut_is : (state : PlainState) (number count : ℕ) (checkpoint : PlainCheckp
       given_out = gone;
       cache = cache;
     })
-cut_is state number count checkpoint gone cache h from sealed ends within newest size log =
+cut_is state number count checkpoint gone cache h from sealed ends within newest held size log =
     let n = number - state.number in
     let objects = take n state.objects in
     let P : Entry → Type 0 = λ e. is_in_range state.geometry e ≡ true in
@@ -119,6 +121,7 @@ cut_is state number count checkpoint gone cache h from sealed ends within newest
       begun = All-nil (λ object. IsTrue (object.was_started && object.is_checkpoint) → object.number ≤ number + 1);
       checkpoint = same_checkpoint (stream_in state) (take (count - state.end) state.entries) objects number number gone
           checkpoint newest (omega arith) (owners_of_cut state number count checkpoint.number h sealed newest.reached ends);
+      held = held;
       log = subst₂ (λ e c. IsPlainLog e c cache.log) (sym end) (sym counted) log;
       size = size;
     }
@@ -138,6 +141,29 @@ newest_is_found state landed h =
           is.unneeded;
     }
 
+-- of what was not given out none is gone
+not_gone : (landed : Numbers) (given_out : List ℕ) (number : ℕ) → has given_out number ≡ false
+    → has (absent_of landed given_out) number ≡ false
+not_gone landed [] number none = refl
+not_gone landed (first ∷ rest) number none =
+    let parts = none_of_both (eqb first number) (has rest number) none in
+    elim (not (landed first)) as (λ b. has (cond b (first ∷ absent_of landed rest) (absent_of landed rest)) number ≡ false) [
+      | true ↦ rw (parts.0) (not_gone landed rest number parts.1)
+      | false ↦ not_gone landed rest number parts.1
+    ]
+
+-- what holds keep is there then
+pub held_is_found : (state : PlainState) (landed : Numbers) → IsPlainVolume state → MayLand state landed
+    → All (IsKeptByHold (recovered_number landed state) (absent_of landed state.given_out)) state.held
+held_is_found state landed h may =
+    let from = recovers_frontier state landed h may in
+    All-weaker (IsKeptByHold (frontier_of state) state.given_out)
+    (IsKeptByHold (recovered_number landed state) (absent_of landed state.given_out))
+    (λ number kept. record {
+      acknowledged = omega (arith, from, kept.acknowledged);
+      kept = not_gone landed state.given_out number kept.kept;
+    }) state.held h.held
+
 -- whichever commit is found whose tail is not before the last one's
 pub from_is : (state : PlainState) (landed : Numbers) (found : PlainCommit) → IsPlainVolume state → MayLand state landed
     → IsCommitWithin state.cache.log.size (frontier_end state) (history_length state) found
@@ -151,7 +177,7 @@ from_is state landed found h may place tail =
     (absent_of landed state.given_out)
     (cache_with (mounted_log found (recovered_end landed state) state.cache.log)) h (omega (arith, frontier, h.opened))
     (recovers_sealed state landed h)
-    (omega arith) (omega arith) (newest_is_found state landed h) h.size
+    (omega arith) (omega arith) (newest_is_found state landed h) (held_is_found state landed h may) h.size
     (mounted_log_is (frontier_end state) (recovered_end landed state) (history_length state) state.cache.log found
     (recovers_end state landed h may) h.log place tail)
 
@@ -180,7 +206,7 @@ lost_is state landed h may =
     cut_is state (recovered_number landed state) end (landed_checkpoint landed state) (absent_of landed state.given_out)
     (cache_with (empty_from size end)) h (omega (arith, frontier, h.opened))
     (recovers_sealed state landed h)
-    (omega arith) (recovers_within state landed h) (newest_is_found state landed h) h.size
+    (omega arith) (recovers_within state landed h) (newest_is_found state landed h) (held_is_found state landed h may) h.size
     (empty_is size end some h.log.room.limit)
 
 pub mounts_keep : MountsKeepPlainVolume
@@ -238,6 +264,7 @@ on_is state landed log h may limits =
       opened = was.opened;
       begun = was.begun;
       checkpoint = was.checkpoint;
+      held = was.held;
       log = subst₂ (λ e c. IsPlainLog e c (empty_from log end)) (sym (cut_end state number end)) (sym counted)
           (empty_is log end size.0 size.1);
       size = refl;

@@ -176,6 +176,7 @@ stops_keep state calls h = record {
   opened = h.opened;
   begun = h.begun;
   checkpoint = h.checkpoint;
+  held = h.held;
   log = h.log;
   size = h.size;
 }

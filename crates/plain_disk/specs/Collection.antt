@@ -11,6 +11,7 @@ use Rattle.plain_disk.specs.declared.event.PlainReply.{PlainReply}
 use Rattle.plain_disk.specs.declared.event.PlainReply.TheVariants.{Copying, Sealed, Dropped, Nothing, Busy}
 use Rattle.plain_disk.specs.State.{PlainState, stream_in, frontier_of, payload_of}
 use Rattle.plain_disk.specs.Objects.{is_busy}
+use Rattle.plain_disk.specs.Removals.{has}
 
 -- ---- victims
 
@@ -22,10 +23,11 @@ live_sectors state number =
 abbrev pub live_in : PlainState → (number : ℕ) → ℕ
 live_in state number = length (live_sectors state number)
 
--- An object is a victim: it has a live sector, and fewer than 70 in a hundred of its payload are live.
+-- An object is a victim: it has a live sector, fewer than 70 in a hundred of its payload are live, and no hold keeps it.
 abbrev pub is_victim : PlainState → (number : ℕ) → Bool
 is_victim state number =
     nat_lt 0 (live_in state number) && nat_lt (live_in state number * 100) (70 * payload_of state number)
+    && not (has state.held number)
 
 -- A victim comes before another: a smaller share of its payload is live or, where the shares are the same, its number is smaller.
 abbrev pub comes_before : PlainState → (number other : ℕ) → Bool

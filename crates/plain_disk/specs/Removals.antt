@@ -25,12 +25,12 @@ copies_from None number = false
 copies_from (Some plan) number = list_any (λ copied. copied.source == number) plan
 
 -- An object may be removed that the newest acknowledged checkpoint has a greater number than, and does not map, where no plan
--- of a read pins it, no plan of a copy takes a sector from it, and it was not removed. What was given out for removal and came
--- back may be given out again.
+-- of a read pins it, no plan of a copy takes a sector from it, no hold keeps it, and it was not removed. What was given out for
+-- removal and came back may be given out again.
 abbrev pub is_removable : PlainState → (number : ℕ) → Bool
 is_removable state number =
     nat_lt number state.checkpoint.number && not (maps state.checkpoint number) && not (has state.pins number)
-    && not (copies_from state.plan number) && not (has state.removed number)
+    && not (copies_from state.plan number) && not (has state.held number) && not (has state.removed number)
 
 -- the lowest number that may be removed, where no removal is out
 abbrev pub to_remove : PlainState → Option ℕ

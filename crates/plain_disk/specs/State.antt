@@ -21,8 +21,9 @@ pub record PlainCheckpoint : Type 0 where
 -- A volume as lists: the image, the count of entries and the owners of the sectors that it opens with, after the object of a
 -- number, and how many sectors of payload each object from the first up to that one has; the entries and the objects since
 -- then; which of the objects are on their way to the store; the newest checkpoint that is acknowledged; the sectors that the plan
--- of a copy takes which is out; the objects that plans of reads have pinned; those that were removed, those that were ever given
--- out for it, these among them and any whose removal failed, and the one whose removal is out; and the cache.
+-- of a copy takes which is out; the objects that plans of reads have pinned; those that holds keep; those that were removed,
+-- those that were ever given out for it, these among them and any whose removal failed, and the one whose removal is out; and the
+-- cache.
 pub record PlainState : Type 0 where
   pub geometry : Geometry
   pub opening : Image
@@ -36,6 +37,7 @@ pub record PlainState : Type 0 where
   pub checkpoint : PlainCheckpoint
   pub plan : Option (List CopiedSector)
   pub pins : List ℕ
+  pub held : List ℕ
   pub removed : List ℕ
   pub given_out : List ℕ
   pub removal : Option ℕ
@@ -56,6 +58,7 @@ created_volume g = record {
   checkpoint = record { number = 1; owned = [] };
   plan = None;
   pins = [];
+  held = [];
   removed = [];
   given_out = [];
   removal = None;

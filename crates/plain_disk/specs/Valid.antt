@@ -62,6 +62,11 @@ pub record IsPlainCheckpoint (stream : Stream) (frontier : ℕ) (given_out : Lis
       → (number k : ℕ) → number < checkpoint.number → is_own number (stream.opening k) ≡ true → maps checkpoint number ≡ true
   pub unneeded : All (IsUnneeded checkpoint) given_out
 
+-- An object that a hold keeps is not past the frontier, and was never given out for removal.
+pub record IsKeptByHold (frontier : ℕ) (given_out : List ℕ) (number : ℕ) : Type 0 where
+  pub acknowledged : number ≤ frontier
+  pub kept : has given_out number ≡ false
+
 -- a checkpoint whose put was ever begun has no lower open number
 abbrev pub BeginsAfterLower : WindowState → Type 0
 BeginsAfterLower window =
@@ -81,6 +86,7 @@ pub record IsPlainVolume (state : PlainState) : Type 0 where
   pub opened : state.number ≤ frontier_of state
   pub begun : BeginsAfterLower state.window
   pub checkpoint : IsPlainCheckpoint (stream_in state) (frontier_of state) state.given_out state.checkpoint
+  pub held : All (IsKeptByHold (frontier_of state) state.given_out) state.held
   pub log : IsPlainLog (frontier_end state) (history_length state) state.cache.log
   pub size : state.cache.log.size ≡ state.geometry.log
 

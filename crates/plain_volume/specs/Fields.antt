@@ -125,10 +125,11 @@ sealed_with object is_checkpoint state = record state {
 abbrev pub owned_now : PlainState → List (Option Owner)
 owned_now state = owned_after state.geometry.sectors state (frontier_of state)
 
--- these are they, and these the payloads of a volume's objects
-pub record AreSeen (owned : List (Option Owner)) (payloads : List ℕ) (state : PlainState) : Type 0 where
+-- these are they, these the payloads of a volume's objects, and these what holds keep
+pub record AreSeen (owned : List (Option Owner)) (payloads held : List ℕ) (state : PlainState) : Type 0 where
   pub of_sectors : owned ≡ owned_now state
   pub of_objects : payloads ≡ payloads_in state
+  pub of_holds : held ≡ state.held
 
 -- how much of the object of a number is live
 abbrev pub share_of : PlainState → (number : ℕ) → Share

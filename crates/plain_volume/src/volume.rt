@@ -67,6 +67,8 @@ pub struct PlainVolume {
     given_out: Vec<u64>,
     /// The object whose removal is out.
     removal: Option<u64>,
+    /// The objects that holds keep: none, since it is told of no hold.
+    held: Vec<u64>,
     cache: CacheDevice,
 }
 
@@ -94,6 +96,7 @@ impl Model for PlainVolume {
       removed = v.removed.items;
       given_out = v.given_out.items;
       removal = v.removal;
+      held = v.held.items;
       cache = v.cache;
     } };
 
@@ -123,6 +126,7 @@ impl PlainVolume {
             removed: Vec::new(alloc),
             given_out: Vec::new(alloc),
             removal: None,
+            held: Vec::new(alloc),
             cache: CacheDevice::empty_from(alloc, geometry.log, 0),
         }
     }
@@ -512,6 +516,7 @@ impl PlainVolume {
             && !self.checkpoint.maps(number)
             && !has(self.pins.as_slice(), number)
             && !self.copies_from(number)
+            && !has(self.held.as_slice(), number)
             && !has(self.removed.as_slice(), number)
     }
 

@@ -14,7 +14,7 @@ use Rattle.object_table.specs.Table.{row_of}
 use Rattle.object_uploads.specs.State.{UploadsState}
 use Rattle.object_uploads.specs.Queue.{pins_of}
 use Rattle.object_uploads.specs.Order.{IsUploads}
-use Rattle.object_uploads.specs.Removal.{HasChangedPins, ChangesPinsEach}
+use Rattle.object_uploads.specs.Removal.{HasChangedRow, ChangesPinsEach}
 use Rattle.object_uploads.proofs.PinsOf.{other_pins}
 
 -- the pins on the object of a number
@@ -30,7 +30,7 @@ module _ (change : ObjectRow → ObjectRow) (numbers : List ℕ) where
   -- it holds of the later ones while the pins of one are changed
   pub holds_later : (P : ℕ → Type 0) (index : ℕ) (old new : UploadsState)
       → ((row : ObjectRow) → (change row).number ≡ row.number) → IsStrictlyIncreasing numbers
-      → HasChangedPins change (get_or numbers index 0) old new → HoldsFrom P numbers old index
+      → HasChangedRow change (get_or numbers index 0) old new → HoldsFrom P numbers old index
       → HoldsFrom P numbers new (index + 1)
   holds_later P index old new keeps ascending changes holds k later inside =
       let below : get_or numbers index 0 < get_or numbers k 0 =
@@ -41,7 +41,7 @@ module _ (change : ObjectRow → ObjectRow) (numbers : List ℕ) where
 
 -- the changes of those from an index on begin with that of the one there
 changes_next : (change : ObjectRow → ObjectRow) (numbers : List ℕ) (index : ℕ) (old middle new : UploadsState)
-    → index < length numbers → HasChangedPins change (get_or numbers index 0) old middle → IsUploads middle
+    → index < length numbers → HasChangedRow change (get_or numbers index 0) old middle → IsUploads middle
     → ChangesPinsEach change (drop (suc index) numbers) middle new → ChangesPinsEach change (drop index numbers) old new
 changes_next change [] index old middle new inside changes is rest = absurd (omega (arith, inside))
 changes_next change (number ∷ numbers) zero old middle new inside changes is rest = (middle, changes, is, rest)
@@ -49,7 +49,7 @@ changes_next change (number ∷ numbers) (suc index) old middle new inside chang
     changes_next change numbers index old middle new (omega (arith, inside)) changes is rest
 
 pub changes_from : (change : ObjectRow → ObjectRow) (numbers : List ℕ) (index : ℕ) (old middle new : UploadsState)
-    → index < length numbers → HasChangedPins change (get_or numbers index 0) old middle → IsUploads middle
+    → index < length numbers → HasChangedRow change (get_or numbers index 0) old middle → IsUploads middle
     → ChangesPinsEach change (drop (index + 1) numbers) middle new → ChangesPinsEach change (drop index numbers) old new
 changes_from change numbers index old middle new inside changes is rest =
     let next : index + 1 ≡ suc index = omega arith in

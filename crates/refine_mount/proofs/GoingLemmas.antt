@@ -88,6 +88,7 @@ mounted_is_plain_volume geometry checkpoint end plain body rows entries rest may
       begun = valid.begun;
       checkpoint = same_checkpoint stream (plain.entries ++ entries) plain.objects (frontier_of plain) (frontier_of plain)
           plain.given_out plain.checkpoint valid.checkpoint (omega arith) owned;
+      held = valid.held;
       log =
           subst₂ (λ e c. IsPlainLog e c log) (sym rest.frontier) counted
           (committed_is geometry.log end (sectors_between geometry.log body) body rows may (omega (arith, size, limit)) are.follow

@@ -39,7 +39,7 @@ use Rattle.plain_disk.specs.Log.{empty_from}
 use Rattle.plain_disk.specs.Cache.{cache_with}
 use Rattle.plain_disk.specs.Removals.{maps, has}
 use Rattle.plain_disk.specs.State.{PlainState, stream_in, frontier_end, payload_of}
-use Rattle.plain_disk.specs.Valid.{IsUnneeded, IsPlainCheckpoint}
+use Rattle.plain_disk.specs.Valid.{IsUnneeded, IsPlainCheckpoint, IsKeptByHold}
 use Rattle.plain_disk.proofs.EventLemmas.{log_has_sectors}
 use Rattle.object_recovery.specs.Recovery.{IsListUpTo}
 use Rattle.object_recovery.specs.Places.{HasPlacesInside}
@@ -50,7 +50,8 @@ use Rattle.refine_objects.specs.Table.{passes_unmapped, ShowsTable}
 use Rattle.refine_mount.specs.Rest.{IsAtRest}
 use Rattle.refine_mount.specs.Laws.{ListShowsSome}
 use Rattle.refine_mount.proofs.TableLemmas.{none_pinned, none_copied}
-use Rattle.refine_mount.proofs.MissingLemmas.{missing_in, has_missing, all_missing, missing_is_below}
+use Rattle.refine_mount.proofs.MissingLemmas.{missing_in, held_by, held_in, has_missing, has_held, all_missing, all_held}
+use Rattle.refine_mount.proofs.MissingLemmas.{missing_is_below}
 use Rattle.refine_mount.proofs.TellLemmas.{Tells, held_owners, held_owner_at, own_live, live_has_row, live_is_mapped, some_tell}
 
 -- ---- the volume
@@ -64,7 +65,7 @@ abbrev payloads_to : (number : ℕ) → List ObjectRow → List ℕ
 payloads_to number rows = map (λ n. payload_in (row_of n rows)) (range_with_len 1 number)
 
 -- It opens with this image after the last object of the list, and nothing was done since. Its newest checkpoint has these owners,
--- and the objects that have no row were removed.
+-- the objects that have no row were removed, and holds keep those whose rows say so.
 abbrev opened_after : Geometry → (checkpoint number end : ℕ) → Image → QueueState → List (Option Owner) → PlainState
 opened_after geometry checkpoint number end image queue owned = record {
   geometry = geometry;
@@ -79,6 +80,7 @@ opened_after geometry checkpoint number end image queue owned = record {
   checkpoint = record { number = checkpoint; owned = owned };
   plan = None;
   pins = [];
+  held = held_in queue.maps.objects.rows number;
   removed = missing_in queue.maps.objects.rows number;
   given_out = missing_in queue.maps.objects.rows number;
   removal = None;
@@ -149,6 +151,11 @@ module _ (uuid : List ℕ) (geometry : Geometry) (checkpoint number end : ℕ) (
     unneeded = opened_unneeded;
   }
 
+  opened_held : All (IsKeptByHold number volume.given_out) volume.held
+  opened_held =
+      All-weaker (λ other. (other ≤ number) × (has volume.given_out other ≡ false)) (IsKeptByHold number volume.given_out)
+      (λ other is. record { acknowledged = is.0; kept = is.1 }) volume.held (all_held rows number)
+
   pub opened_is_at_rest : IsTrue (is_within_limits geometry) → length image ≡ geometry.sectors
       → IsAtRest geometry checkpoint end volume
   opened_is_at_rest limits sectors =
@@ -173,6 +180,7 @@ module _ (uuid : List ℕ) (geometry : Geometry) (checkpoint number end : ℕ) (
           opened = omega arith;
           begun = All-nil (λ object. IsTrue (object.was_started && object.is_checkpoint) → object.number ≤ number + 1);
           checkpoint = opened_checkpoint;
+          held = opened_held;
           log = record {
             counted = omega arith;
             room = record { limit = size.1; head = size.0; used = omega arith };
@@ -240,6 +248,17 @@ module _ (uuid : List ℕ) (geometry : Geometry) (checkpoint number end : ℕ) (
       sym (ap (λ (l : List ℕ). get_or (0 ∷ l) other 0) (append-nil list)
       ∙ (ap (λ n. get_or (0 ∷ list) n 0) (sym index) ∙ payload_is)))
 
+  -- each row says whether a hold keeps it
+  held_shown : (other : ℕ) (found : Option ObjectRow) → row_of other rows ≡ found
+      → IfSome found (λ row. row.is_held ≡ has volume.held other)
+  held_shown other None at = tt
+  held_shown other (Some row) at =
+      let within = found_holds (λ (r : ObjectRow). r.number ≤ queue.frontier) other rows row at known.within in
+      let from_one = found_holds (λ (r : ObjectRow). 1 ≤ r.number) other rows row at known.from_one in
+      let named = its_number other rows row at in
+      sym (has_held rows number other (omega (arith, from_one, named)) (omega (arith, within, named, reached))
+      ∙ ap held_by at)
+
   pub opened_shows_table : ShowsTable queue volume
   opened_shows_table = record {
     checkpoint = table.checkpoint_is;
@@ -248,10 +267,13 @@ module _ (uuid : List ℕ) (geometry : Geometry) (checkpoint number end : ℕ) (
     unmapped = λ other. row_shown other (row_of other rows) refl;
     pins = λ other. none_pinned rows other (row_of other rows) refl table.unpinned;
     copied = λ other. none_copied rows other (row_of other rows) refl table.not_copied;
+    held = λ other. held_shown other (row_of other rows) refl;
     payload = λ other. row_payload other (row_of other rows) refl;
     free = tt;
     gone = All-weaker (λ other. (1 ≤ other) × (other ≤ number) × (row_of other rows ≡ None)) (λ other. other < checkpoint)
         (λ other missing. missing_early other missing.1 missing.2) volume.removed (all_missing rows number);
+    kept = All-weaker (λ other. (other ≤ number) × (has volume.removed other ≡ false)) (λ other. other ≤ queue.frontier)
+        (λ other is. omega (arith, is.0, reached)) volume.held (all_held rows number);
     reached = tt;
   }
     where

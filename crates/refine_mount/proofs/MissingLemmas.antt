@@ -1,11 +1,12 @@
--- The numbers of the objects that are not in a table: they were removed before its newest checkpoint.
+-- The numbers of the objects that are not in a table, which were removed before its newest checkpoint, and of those that a hold
+-- keeps.
 use Rattle.std.proofs.Common.{◌≡◌, ℕ, zero, suc, ◌+◌, ◌<◌, ◌≤◌, ◌||◌, not, eqb, Bool, true, false, cond, Option, Some, None}
-use Rattle.std.proofs.Common.{List, [], ◌∷◌, get_or, inl, inr, refl, sym, ◌∙◌, ap, subst, arith}
+use Rattle.std.proofs.Common.{List, [], ◌∷◌, inl, inr, refl, sym, ◌∙◌, ap, subst, arith}
 use Rattle.std.specs.Prelude.{IsSome, is_some, map}
 use Rattle.std.specs.List.{All, filter, range_with_len}
 use Rattle.std.proofs.lemmas.Bool.{cases_lt}
 use Rattle.std.proofs.lemmas.Bool.Decides.{nat_tests}
-use Rattle.std.proofs.lemmas.List.Elements.{All-from_get_or, All-filter, filter_passes}
+use Rattle.std.proofs.lemmas.List.Elements.{All-from_get_or, All-filter, All-weaker, filter_passes}
 use Rattle.std.proofs.lemmas.List.FromFn.{length-range_with_len, get_or-range_with_len}
 use Rattle.object_table.specs.declared.row.ObjectRow.{ObjectRow}
 use Rattle.object_table.specs.Table.{numbers, row_of}
@@ -21,6 +22,18 @@ is_missing rows number = not (is_some (row_of number rows))
 -- those up to a last one that have none
 abbrev pub missing_in : List ObjectRow → (last : ℕ) → List ℕ
 missing_in rows last = filter (is_missing rows) (range_with_len 1 last)
+
+-- a number has a row that a hold keeps
+abbrev pub held_by : Option ObjectRow → Bool
+held_by None = false
+held_by (Some row) = row.is_held
+
+abbrev pub is_held : List ObjectRow → (number : ℕ) → Bool
+is_held rows number = held_by (row_of number rows)
+
+-- those up to a last one that have one
+abbrev pub held_in : List ObjectRow → (last : ℕ) → List ℕ
+held_in rows last = filter (is_held rows) (range_with_len 1 last)
 
 -- ---- which numbers pass a test
 
@@ -69,10 +82,27 @@ has_by_test test from (suc count) number low high =
           ] refl)
     ]
 
--- a number up to the last is missing where it has no row
+-- a number up to the last is missing where it has no row, and held where a hold keeps its row
 pub has_missing : (rows : List ObjectRow) (last number : ℕ) → 1 ≤ number → number ≤ last
     → has (missing_in rows last) number ≡ is_missing rows number
 has_missing rows last number low high = has_by_test (is_missing rows) 1 last number low (omega (arith, high))
+
+pub has_held : (rows : List ObjectRow) (last number : ℕ) → 1 ≤ number → number ≤ last
+    → has (held_in rows last) number ≡ is_held rows number
+has_held rows last number low high = has_by_test (is_held rows) 1 last number low (omega (arith, high))
+
+-- each of those that pass lies in the range
+all_passing : (test : ℕ → Bool) (last : ℕ)
+    → All (λ number. (1 ≤ number) × (number ≤ last) × (test number ≡ true)) (filter test (range_with_len 1 last))
+all_passing test last =
+    let P : ℕ → Type 0 = λ number. (1 ≤ number) × (number < 1 + last) in
+    let within = All-filter test P (range_with_len 1 last) (ranged 1 last) in
+    let passes = filter_passes test (range_with_len 1 last) in
+    λ k d inside.
+    let in_range = within k d inside in
+    let low = in_range.0 in
+    let high = in_range.1 in
+    (low, omega (arith, high), passes k d inside)
 
 no_row : (found : Option ObjectRow) → not (is_some found) ≡ true → found ≡ None
 no_row None is = refl
@@ -82,14 +112,22 @@ no_row (Some row) is = absurd cc
 pub all_missing : (rows : List ObjectRow) (last : ℕ)
     → All (λ number. (1 ≤ number) × (number ≤ last) × (row_of number rows ≡ None)) (missing_in rows last)
 all_missing rows last =
-    let P : ℕ → Type 0 = λ number. (1 ≤ number) × (number < 1 + last) in
-    let within = All-filter (is_missing rows) P (range_with_len 1 last) (ranged 1 last) in
-    let passes = filter_passes (is_missing rows) (range_with_len 1 last) in
-    λ k d inside.
-    let in_range = within k d inside in
-    let low = in_range.0 in
-    let high = in_range.1 in
-    (low, omega (arith, high), no_row (row_of (get_or (missing_in rows last) k d) rows) (passes k d inside))
+    All-weaker (λ number. (1 ≤ number) × (number ≤ last) × (is_missing rows number ≡ true))
+    (λ number. (1 ≤ number) × (number ≤ last) × (row_of number rows ≡ None))
+    (λ number is. (is.0, is.1, no_row (row_of number rows) is.2)) (missing_in rows last) (all_passing (is_missing rows) last)
+
+some_row : (found : Option ObjectRow) → held_by found ≡ true → not (is_some found) ≡ false
+some_row None is = absurd cc
+some_row (Some row) is = refl
+
+-- each of the held lies in the range, and is not missing
+pub all_held : (rows : List ObjectRow) (last : ℕ)
+    → All (λ number. (number ≤ last) × (has (missing_in rows last) number ≡ false)) (held_in rows last)
+all_held rows last =
+    All-weaker (λ number. (1 ≤ number) × (number ≤ last) × (is_held rows number ≡ true))
+    (λ number. (number ≤ last) × (has (missing_in rows last) number ≡ false))
+    (λ number is. (is.1, has_missing rows last number is.0 is.1 ∙ some_row (row_of number rows) is.2)) (held_in rows last)
+    (all_passing (is_held rows) last)
 
 -- ---- none is missing from the newest checkpoint on
 

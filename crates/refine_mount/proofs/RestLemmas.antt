@@ -1,6 +1,7 @@
 -- What a mount without the cache makes of a plain volume, and that the list that was recovered shows it.
 use Rattle.std.proofs.Common.{◌≡◌, ℕ, ◌-◌, ◌<◌, ◌≤◌, true, List, [], take, refl, sym, ◌∙◌, ap, subst, arith}
 use Rattle.std.specs.Prelude.{IsTrue}
+use Rattle.std.specs.List.{All}
 use Rattle.std.proofs.Math.Path.{subst₂}
 use Rattle.std.proofs.lemmas.List.{take-take}
 use Rattle.std.proofs.lemmas.List.Elements.{All-weaker}
@@ -12,11 +13,12 @@ use Rattle.lsvd_base.specs.Limits.{is_within_limits}
 use Rattle.lsvd_base.specs.Range.{is_in_range}
 use Rattle.log_room.specs.Room.{max_log}
 use Rattle.object_stream.specs.Stream.{end_after, last_number}
+use Rattle.upload_window.specs.Window.{below_open}
 use Rattle.object_uploads.specs.Image.{HasImage}
 use Rattle.plain_disk.specs.Log.{empty_from}
 use Rattle.plain_disk.specs.Cache.{PlainCache, cache_with}
 use Rattle.plain_disk.specs.State.{PlainState, stream_in, history_length, frontier_end}
-use Rattle.plain_disk.specs.Valid.{IsPlainVolume, IsPlainCheckpoint, IsPlainLog}
+use Rattle.plain_disk.specs.Valid.{IsPlainVolume, IsPlainCheckpoint, IsKeptByHold, IsPlainLog}
 use Rattle.plain_disk.proofs.EndLemmas.{ends_within}
 use Rattle.plain_disk.proofs.EventLemmas.{log_has_sectors}
 use Rattle.plain_disk.proofs.MountLemmas.{cut_is, cut_count}
@@ -61,6 +63,7 @@ moved_is log plain removed cache valid limits size of_log = record {
   opened = valid.opened;
   begun = valid.begun;
   checkpoint = valid.checkpoint;
+  held = valid.held;
   log = of_log;
   size = size;
 }
@@ -89,8 +92,9 @@ mounted_is_at_rest uuid log plain number objects valid has limits =
     let same : PlainCache = cache_with (empty_from plain.cache.log.size end) in
     let old_log = emptied_is plain.cache.log.size end (omega (arith, valid.log.room.head)) valid.log.room.limit in
     let newest = newest_is plain number valid (omega (arith, has.opened, from)) in
-    let old = cut_is plain number end plain.checkpoint plain.given_out same valid from last (omega arith) within newest valid.size
-    old_log in
+    let held = subst (λ n. All (IsKeptByHold n plain.given_out) plain.held) (ap below_open has.window) valid.held in
+    let old = cut_is plain number end plain.checkpoint plain.given_out same valid from last (omega arith) within newest held
+    valid.size old_log in
     let sectors = log_has_sectors (sizes_with log plain.geometry) limits in
     let of_log = subst₂ (λ e c. IsPlainLog e c (empty_from log end)) (sym frontier) (sym history)
     (emptied_is log end sectors.0 sectors.1) in

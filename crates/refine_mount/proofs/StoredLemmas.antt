@@ -136,6 +136,7 @@ mounted_has_objects uuid plain found number objects plain_is valid has =
           has.payloads other payload low there
           ∙ sym (payload_of_cut plain number (max (end_of_object number plain) found.head.seq) other plain_is
           (omega (arith, stored.base, stored.missing.above)) last (omega arith) low);
+      holds = has.holds;
       stored = record {
         own = has.stored.own;
         valid = valid.stream;

@@ -1,6 +1,6 @@
 -- The table of a list that was recovered shows what a mount makes of a plain volume, and goes on showing it with entries more.
-use Rattle.std.proofs.Common.{◌≡◌, ℕ, ◌+◌, ◌-◌, ◌<◌, ◌≤◌, ◌&&◌, not, nat_lt, Bool, true, false, Option, Some, None, List, []}
-use Rattle.std.proofs.Common.{◌∷◌, ◌++◌, length, take, get_or, refl, sym, ◌∙◌, ap, subst, arith}
+use Rattle.std.proofs.Common.{◌≡◌, ℕ, ◌-◌, ◌<◌, ◌≤◌, ◌&&◌, not, nat_lt, Bool, true, false, Option, Some, None, List, []}
+use Rattle.std.proofs.Common.{◌∷◌, take, get_or, refl, sym, ◌∙◌, ap, subst, arith}
 use Rattle.std.specs.Prelude.{IfSome, IsTrue, ◌↔◌}
 use Rattle.std.specs.List.{All}
 use Rattle.std.proofs.lemmas.Bool.Decides.{nat_tests}
@@ -8,24 +8,22 @@ use Rattle.std.proofs.lemmas.List.Elements.{All-weaker}
 use Rattle.lsvd_base.specs.declared.entry.Entry.{Entry}
 use Rattle.object_stream.specs.Stream.{Owners, after_objects, is_own}
 use Rattle.stopped_volume.specs.Opening.{IsCheckpointOf}
+use Rattle.upload_window.specs.Window.{below_open}
 use Rattle.object_table.specs.declared.row.ObjectRow.{ObjectRow}
 use Rattle.object_table.specs.Table.{row_of}
 use Rattle.object_table.proofs.Listed.{found_holds}
 use Rattle.object_table.proofs.Rows.{its_number}
 use Rattle.object_table.specs.Table.{TableState}
 use Rattle.object_uploads.specs.Queue.{pins_of}
-use Rattle.object_uploads.specs.State.{QueueState}
-use Rattle.plain_disk.specs.Cache.{cache_with}
-use Rattle.plain_disk.specs.Log.{PlainLog}
-use Rattle.plain_disk.specs.State.{PlainState, PlainCheckpoint, stream_in, payload_of}
+use Rattle.plain_disk.specs.State.{PlainState, PlainCheckpoint, stream_in, payload_of, frontier_of}
 use Rattle.plain_disk.specs.Removals.{maps}
-use Rattle.plain_disk.specs.Valid.{IsUnneeded, IsPlainVolume}
+use Rattle.plain_disk.specs.Valid.{IsUnneeded, IsKeptByHold, IsPlainVolume}
 use Rattle.plain_disk.proofs.CheckpointLemmas.{some_owns, owns_some}
 use Rattle.object_recovery.specs.Checkpoints.{expected_of}
 use Rattle.object_recovery.specs.Table.{HasPayloadThere}
 use Rattle.object_recovery.proofs.LivePayloads.{live_payload}
 use Rattle.obj_log.specs.State.{ObjLogState}
-use Rattle.refine_objects.specs.Table.{passes_unmapped, ShowsTable}
+use Rattle.refine_objects.specs.Table.{passes_unmapped}
 use Rattle.refine_objects.proofs.PayloadsOf.{payload_with_entries}
 use Rattle.refine_objects.proofs.TableLemmas.{HasTableOf, same_table}
 use Rattle.refine_mount.specs.Mounted.{end_of_object, mounted_without, going_on, AddsEntries}
@@ -115,12 +113,25 @@ row_payload : (There : ℕ → Type 0) (found : Option ObjectRow) (payload : ℕ
 row_payload There None payload known same = tt
 row_payload There (Some row) payload known same = λ live. same row refl (known live)
 
+-- two tests that mean the same are the same
+same_test : {A : Type 0} (a b : Bool) → (IsTrue a ↔ A) → (IsTrue b ↔ A) → a ≡ b
+same_test true b first second = sym (second.1 (first.0 refl))
+same_test false true first second = let is = first.1 (second.0 refl) in cc
+same_test false false first second = refl
+
+-- what is known of whether a hold keeps a row is what the volume says
+row_held : {A : Type 0} (found : Option ObjectRow) (held : Bool) → (IsTrue held ↔ A)
+    → IfSome found (λ (row : ObjectRow). IsTrue row.is_held ↔ A) → IfSome found (λ (row : ObjectRow). row.is_held ≡ held)
+row_held None held same known = tt
+row_held (Some row) held same known = same_test row.is_held held known same
+
 pub recovered_shows_table : RecoveredShowsTable
-recovered_shows_table uuid size plain number objects log valid has list last order table knows =
+recovered_shows_table uuid size plain number objects log valid has list last order table knows keeps =
     let rows = log.uploads.queue.maps.objects.rows in
     let stream = stream_in plain in
     let first = subst (λ n. IsCheckpointOf (expected_of uuid plain.geometry) objects n stream.end stream.opening) (sym has.opened)
     has.stored.stored.opens.is.checkpoint in
+    let frontier : frontier_of plain ≡ number = ap below_open has.window in
     record {
       checkpoint = table.checkpoint_is;
       removal = table.removal;
@@ -130,6 +141,7 @@ recovered_shows_table uuid size plain number objects log valid has list last ord
           (knows.unmapped stream.end stream.opening first other);
       pins = λ other. none_pinned rows other (row_of other rows) refl table.unpinned;
       copied = λ other. none_copied rows other (row_of other rows) refl table.not_copied;
+      held = λ other. row_held (row_of other rows) _ (has.holds.same other) (keeps.says other);
       payload = λ other.
           row_payload (HasPayloadThere (expected_of uuid plain.geometry) objects other) (row_of other rows)
           (payload_of (mounted_without size number plain) other)
@@ -147,6 +159,8 @@ recovered_shows_table uuid size plain number objects log valid has list last ord
       gone = All-weaker (IsUnneeded plain.checkpoint) (λ other. other < plain.checkpoint.number)
           (λ other unneeded. unneeded.before) plain.removed
           (subst (All (IsUnneeded plain.checkpoint)) has.gone valid.checkpoint.unneeded);
+      kept = All-weaker (IsKeptByHold (frontier_of plain) plain.given_out) (λ other. other ≤ log.uploads.queue.frontier)
+          (λ other is. omega (arith, is.acknowledged, frontier, list.frontier, last)) plain.held valid.held;
       reached = tt;
     }
 
@@ -183,5 +197,6 @@ entries_keep_table data_at plain entries log old new valid shows adds =
       removed = refl;
       pins = refl;
       plan = refl;
+      held = refl;
       payloads = λ number row is. payload_with_entries plain entries number valid;
     }) shows

@@ -40,7 +40,7 @@ use Rattle.refine_log.specs.Pending.{ShowsPending}
 use Rattle.object_recovery.specs.Checkpoints.{expected_of}
 use Rattle.object_recovery.specs.Recovery.{IsListUpTo, HasRecovered}
 use Rattle.object_recovery.specs.Places.{HasPlacesInside}
-use Rattle.object_recovery.specs.Table.{HasTableFrom, KnowsObjects}
+use Rattle.object_recovery.specs.Table.{HasTableFrom, KnowsObjects, KnowsHolds}
 use Rattle.refine_mount.specs.Found.{HasObjects}
 use Rattle.refine_mount.specs.Mounted.{end_of_object, mounted_with, sizes_with, mounted_without, log_found, committed_at}
 use Rattle.refine_mount.specs.Mounted.{going_on, data_in, AddsEntries}
@@ -95,6 +95,7 @@ RecoveredShowsTable =
     → IsListUpTo uuid (sizes_with size plain.geometry) log.uploads.window.last log.uploads.queue.end log
     → log.uploads.window.last ≡ number → IsUploads log.uploads → HasTableFrom plain.checkpoint.number log.uploads.queue
     → KnowsObjects (expected_of uuid plain.geometry) objects plain.checkpoint.number log.uploads.queue
+    → KnowsHolds (expected_of uuid plain.geometry) objects log.uploads.queue
     → ShowsTable log.uploads.queue (mounted_without size number plain)
 
 -- each list that was recovered shows some plain volume that is at rest, with its table, also where no bytes are told

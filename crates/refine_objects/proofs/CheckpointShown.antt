@@ -103,6 +103,7 @@ module _ (data_at : ℕ → ℕ) (old new : ObjLogState) (plain : PlainState) (u
               removed = refl;
               pins = refl;
               plan = refl;
+              held = refl;
               payloads = λ number row is.
                   payload_with_object plain
                   (record { content = Checkpoint; end = end_at (stream_in plain) (last_number (stream_in plain)) }) number valid

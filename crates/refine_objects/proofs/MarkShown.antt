@@ -2,7 +2,7 @@
 use Rattle.std.proofs.Common.{◌≡◌, ℕ, zero, suc, ◌<◌, ◌≤◌, ◌==◌, ◌||◌, cond, Bool, true, false, Option, Some, None, List, [], ◌∷◌}
 use Rattle.std.proofs.Common.{refl, sym, ◌∙◌, ap, subst, arith}
 use Rattle.std.specs.Prelude.{IfSome, option_map}
-use Rattle.std.specs.List.{Contains}
+use Rattle.std.specs.List.{All, Contains}
 use Rattle.std.proofs.lemmas.Bool.Decides.{nat_tests}
 use Rattle.lsvd_objstore.specs.Store.{ReceiptState}
 use Rattle.object_stream.specs.declared.object.CopiedSector.{CopiedSector}
@@ -140,6 +140,7 @@ module _ (is_copied : Bool) where
     unmapped = tt;
     pins_are = shows.pins_are;
     copied = tt;
+    held_is = tt;
     payload_is = tt;
   }
   row_marked seen plan frontier n true (Some row) same shows =
@@ -150,6 +151,7 @@ module _ (is_copied : Bool) where
         unmapped = shows.unmapped;
         pins_are = shows.pins_are;
         copied = same;
+        held_is = shows.held_is;
         payload_is = shows.payload_is;
       }
   row_marked seen plan frontier n false None same shows = record {
@@ -158,6 +160,7 @@ module _ (is_copied : Bool) where
     unmapped = tt;
     pins_are = shows.pins_are;
     copied = tt;
+    held_is = tt;
     payload_is = tt;
   }
   row_marked seen plan frontier n false (Some row) same shows = record {
@@ -166,6 +169,7 @@ module _ (is_copied : Bool) where
     unmapped = shows.unmapped;
     pins_are = shows.pins_are;
     copied = shows.copied ∙ same;
+    held_is = shows.held_is;
     payload_is = shows.payload_is;
   }
 
@@ -192,6 +196,7 @@ module _ (is_copied : Bool) where
         newest = marked_checkpoint numbers queue ∙ shows.checkpoint;
         reached = subst (λ n. plain.checkpoint.number ≤ n) (sym frontier) rows.reached;
         gone = shows.gone;
+        kept = subst (λ n. All (λ (m : ℕ). m ≤ n) plain.held) (sym frontier) rows.kept;
         planned = subst (λ n. IsPlannedTo n plan) (sym frontier) reached;
         rows_show = λ n.
             subst (λ m. RowShows (seen_of live now) m n (row_of n new.maps.objects.rows)) (sym frontier)

@@ -24,7 +24,7 @@ use Rattle.refine_objects.specs.TableLaws.{PinnedShowsPin, UnpinnedShowsUnpin}
 use Rattle.refine_objects.proofs.ShowLemmas.{shown_have_counts}
 use Rattle.refine_objects.proofs.AlikeLemmas.{same_alike}
 use Rattle.refine_objects.proofs.TableRows.{TableSeen, seen_of, RowShows, RowsShow}
-use Rattle.refine_objects.proofs.TableRows.{not_past, planned_more, its_live, has_own_live}
+use Rattle.refine_objects.proofs.TableRows.{held_to, not_past, planned_more, its_live, has_own_live}
 use Rattle.refine_objects.proofs.TableRows.{rows_of_shown, shown_by_rows}
 use Rattle.refine_objects.proofs.TableChanged.{with_others, table_changed}
 
@@ -102,6 +102,7 @@ module _ (seen : TableSeen) (frontier number : ℕ) where
             sym (pinned_more number n pins
             ∙ (ap (λ b. times_pinned n pins + cond b 1 0) test ∙ ap (λ m. m + 1) (sym shows.pins_are)));
         copied = shows.copied;
+        held_is = shows.held_is;
         payload_is = shows.payload_is;
       }
   row_pinned false n found test there shows = record {
@@ -113,6 +114,7 @@ module _ (seen : TableSeen) (frontier number : ℕ) where
         shows.pins_are
         ∙ sym (pinned_more number n pins ∙ (ap (λ b. times_pinned n pins + cond b 1 0) test ∙ none));
     copied = shows.copied;
+    held_is = shows.held_is;
     payload_is = shows.payload_is;
   }
 
@@ -127,6 +129,7 @@ module _ (seen : TableSeen) (frontier number : ℕ) where
         unmapped = tt;
         pins_are = omega (arith, less, shows.pins_are);
         copied = tt;
+        held_is = tt;
         payload_is = tt;
       }
   row_unpinned true n (Some row) test shows =
@@ -138,6 +141,7 @@ module _ (seen : TableSeen) (frontier number : ℕ) where
         unmapped = shows.unmapped;
         pins_are = ap (λ m. m - 1) shows.pins_are ∙ sym less;
         copied = shows.copied;
+        held_is = shows.held_is;
         payload_is = shows.payload_is;
       }
   row_unpinned false n found test shows =
@@ -148,6 +152,7 @@ module _ (seen : TableSeen) (frontier number : ℕ) where
         unmapped = shows.unmapped;
         pins_are = omega (arith, less, shows.pins_are);
         copied = shows.copied;
+        held_is = shows.held_is;
         payload_is = shows.payload_is;
       }
 
@@ -195,6 +200,8 @@ pinned_shows_pin data_at old new plain number k was now valid shows reads change
       newest = ap (λ (t : TableState). t.checkpoint) changed_pins.objects ∙ shows.table.checkpoint;
       reached = omega (arith, rows.reached, changed_pins.rest.frontier);
       gone = shows.table.gone;
+      kept = held_to queue.frontier new.uploads.queue.frontier plain.held (omega (arith, changed_pins.rest.frontier))
+          shows.table.kept;
       planned = planned_more queue.frontier new.uploads.queue.frontier plain.plan (omega (arith, changed_pins.rest.frontier))
           shows.table.reached;
       rows_show = λ n.
@@ -240,6 +247,8 @@ unpinned_shows_unpin data_at old new plain number was shows changed_pins batch =
       newest = ap (λ (t : TableState). t.checkpoint) changed_pins.objects ∙ shows.table.checkpoint;
       reached = omega (arith, rows.reached, changed_pins.rest.frontier);
       gone = shows.table.gone;
+      kept = held_to queue.frontier new.uploads.queue.frontier plain.held (omega (arith, changed_pins.rest.frontier))
+          shows.table.kept;
       planned = planned_more queue.frontier new.uploads.queue.frontier plain.plan (omega (arith, changed_pins.rest.frontier))
           shows.table.reached;
       rows_show = λ n.

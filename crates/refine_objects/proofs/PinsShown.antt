@@ -37,6 +37,7 @@ with_pins plain pins valid = record {
   opened = valid.opened;
   begun = valid.begun;
   checkpoint = valid.checkpoint;
+  held = valid.held;
   log = valid.log;
   size = valid.size;
 }

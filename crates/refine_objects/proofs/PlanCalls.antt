@@ -19,7 +19,7 @@ use Rattle.object_uploads.specs.State.{NumberedReceipt, QueueState, UploadsState
 use Rattle.object_uploads.specs.Queue.{with_at, with_receipt, receipt_in, receipts_of}
 use Rattle.object_uploads.specs.Order.{IsUploads, AreKnown, is_out}
 use Rattle.object_uploads.specs.Changes.{index_of, with_job}
-use Rattle.object_uploads.specs.Removal.{IsSameButObjects, HasChangedPins, ChangesPinsEach, without_receipt, with_receipt_of}
+use Rattle.object_uploads.specs.Removal.{IsSameButObjects, HasChangedRow, ChangesPinsEach, without_receipt, with_receipt_of}
 use Rattle.object_uploads.specs.Removal.{IsRemovedNext, TakesRemoval, FinishesRemoval, TakesBackRemoval}
 use Rattle.object_uploads.proofs.PinsOf.{row_changed}
 use Rattle.object_uploads.proofs.StoredLemmas.{front_in, first_receipt, stored_parts}
@@ -89,7 +89,7 @@ same_front_by change false found keeps = refl
 
 pin_keeps : (change : ObjectRow → ObjectRow) (number : ℕ) (old new : UploadsState) (plan : PlanState)
     → ((row : ObjectRow) → ((change row).front ≡ row.front) × ((change row).number ≡ row.number))
-    → HasChangedPins change number old new → KeepsSources plan old.queue new.queue
+    → HasChangedRow change number old new → KeepsSources plan old.queue new.queue
 pin_keeps change number old new plan keeps changed_pins = record {
   frontier = omega (arith, changed_pins.rest.frontier);
   stored = all_stay old.queue new.queue plan.sources (λ n is. stays_by old.queue new.queue n

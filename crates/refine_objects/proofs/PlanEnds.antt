@@ -204,6 +204,7 @@ module _ (data_at : ℕ → ℕ) (old sealed : ObjLogState) (plain : PlainState)
               removed = refl;
               pins = refl;
               plan = refl;
+              held = refl;
               payloads = λ number row at.
                   payload_with_object plain
                   (record { content = Copy pairs; end = end_at (stream_in plain) (last_number (stream_in plain)) }) number valid

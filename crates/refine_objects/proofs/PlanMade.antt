@@ -121,6 +121,7 @@ rows_are data_at list plain is valid shows =
           inside_volume list.uploads.sectors plain.geometry.sectors queue.frontier k (settled_at queue.maps k) sectors
           (is.places k);
       payload = shows.table.payload;
+      held = shows.table.held;
     }
 
 -- ---- what is planned

@@ -1,7 +1,7 @@
 -- Where the table has a candidate, the plain volume has a victim, and plans a copy.
 use Rattle.std.proofs.Common.{◌≡◌, ℕ, zero, suc, ◌<◌, ◌*◌, ◌&&◌, ◌||◌, true, false, None, List, [], ◌∷◌, ◌++◌}
 use Rattle.std.proofs.Common.{length, map, take, refl, sym, ◌∙◌, ap, arith}
-use Rattle.std.specs.Prelude.{IsTrue, nat_lt}
+use Rattle.std.specs.Prelude.{IsTrue, nat_lt, not}
 use Rattle.std.specs.List.{AllByRecursion, filter, flat_map, range_with_len}
 use Rattle.std.proofs.lemmas.Bool.{and_parts}
 use Rattle.std.proofs.lemmas.Bool.Decides.{nat_tests}
@@ -13,6 +13,7 @@ use Rattle.object_table.specs.Table.{row_of, candidates}
 use Rattle.volume_maps.specs.Maps.{MapsState}
 use Rattle.volume_maps.proofs.RowsLemmas.{is_in, in_range}
 use Rattle.plain_disk.specs.State.{PlainState, frontier_of, payload_of}
+use Rattle.plain_disk.specs.Removals.{has}
 use Rattle.plain_disk.specs.Step.{is_refusal}
 use Rattle.plain_disk.specs.Collection.{live_sectors, live_in, is_victim, comes_before, victims, planned_copy, reply_of_plan}
 use Rattle.refine_objects.specs.PlanLaws.{VictimsShowPlan}
@@ -50,8 +51,9 @@ module _ (plain : PlainState) where
       → AllByRecursion (λ v. 0 < length (live_sectors plain v)) list
   live_of_victim [] all = tt
   live_of_victim (first ∷ list) all =
-      let live = (and_parts (nat_lt 0 (live_in plain first)) (nat_lt (live_in plain first * 100) (70 * payload_of plain first))
-      all.0).0 in
+      let some_live = nat_lt 0 (live_in plain first) in
+      let few = nat_lt (live_in plain first * 100) (70 * payload_of plain first) in
+      let live = (and_parts some_live few (and_parts (some_live && few) (not (has plain.held first)) all.0).0).0 in
       let some : 0 < length (live_sectors plain first) = grind (arith, nat_tests, live) in
       (some, live_of_victim list all.1)
 

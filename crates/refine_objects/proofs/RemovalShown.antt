@@ -27,8 +27,8 @@ use Rattle.refine_objects.specs.Table.{times_pinned, passes_unmapped, ShowsTable
 use Rattle.refine_objects.specs.TableLaws.{ShowsBoth, TakenShowsRemoval, NoneTakenShowsNone, FinishedShowsRemoved}
 use Rattle.refine_objects.specs.TableLaws.{TakenBackShowsGivenBack, NotOutShowsNothing}
 use Rattle.refine_objects.proofs.AlikeLemmas.{same_alike, taken_alike, back_alike}
-use Rattle.refine_objects.proofs.TableRows.{TableSeen, seen_of, RowShows, RowsShow, planned_more, its_live, has_own_live}
-use Rattle.refine_objects.proofs.TableRows.{rows_of_shown, shown_by_rows}
+use Rattle.refine_objects.proofs.TableRows.{TableSeen, seen_of, RowShows, RowsShow, held_to, planned_more}
+use Rattle.refine_objects.proofs.TableRows.{its_live, has_own_live, rows_of_shown, shown_by_rows}
 use Rattle.refine_objects.proofs.TableChanged.{with_others, table_changed}
 
 -- ---- numbers among others
@@ -95,16 +95,19 @@ some_row (Some row) is = (row, refl)
 -- what the test of the plain volume says
 test_parts : (plain : PlainState) (number : ℕ) → is_removable plain number ≡ true
     → (passes_unmapped plain.checkpoint number ≡ true) × (not (has plain.pins number) ≡ true)
-    × (not (copies_from plain.plan number) ≡ true) × (not (has plain.removed number) ≡ true)
+    × (not (copies_from plain.plan number) ≡ true) × (not (has plain.held number) ≡ true)
+    × (not (has plain.removed number) ≡ true)
 test_parts plain number removable =
     let free = not (has plain.pins number) in
     let apart = not (copies_from plain.plan number) in
     let left = not (has plain.removed number) in
     let passes = passes_unmapped plain.checkpoint number in
-    let first = both_true (passes && free && apart) left removable in
-    let second = both_true (passes && free) apart first.0 in
+    let unheld = not (has plain.held number) in
+    let first = both_true (passes && free && apart && unheld) left removable in
+    let kept = both_true (passes && free && apart) unheld first.0 in
+    let second = both_true (passes && free) apart kept.0 in
     let third = both_true passes free second.0 in
-    (third.0, third.1, second.1, first.1)
+    (third.0, third.1, second.1, kept.1, first.1)
 
 -- a row that is found twice has the same live sectors
 live_of_dead : (row dead : ObjectRow) (found : Option ObjectRow) → found ≡ Some row → found ≡ Some dead → dead.live ≡ 0
@@ -138,7 +141,10 @@ module _ (uploads : UploadsState) (plain : PlainState) (is : IsUploads uploads) 
       subst (λ r. IfSome r (λ (row : ObjectRow). row.is_copied ≡ copies_from plain.plan number)) stands
       (shows.copied number) in
       let apart : copies_from plain.plan number ≡ false = sym copied ∙ removable.not_copied in
-      rw (passes, free, apart, left) refl
+      let held : removable.row.is_held ≡ has plain.held number =
+      subst (λ r. IfSome r (λ (row : ObjectRow). row.is_held ≡ has plain.held number)) stands (shows.held number) in
+      let unheld : has plain.held number ≡ false = sym held ∙ removable.not_held in
+      rw (passes, free, apart, unheld, left) refl
 
   -- and the other way
   pub removable_by : (number : ℕ) → 1 ≤ number → is_removable plain number ≡ true → IsRemovable table number
@@ -151,7 +157,7 @@ module _ (uploads : UploadsState) (plain : PlainState) (is : IsUploads uploads) 
       let below : number < table.checkpoint = omega (arith, below_plain, shows.checkpoint) in
       let high : number ≤ uploads.queue.frontier = omega (arith, below, is.known.checkpoint) in
       let known : is_some (row_of number table.rows) ≡ not (has plain.removed number) = shows.known number low high in
-      let left : not (has plain.removed number) ≡ true = parts.3 in
+      let left : not (has plain.removed number) ≡ true = parts.4 in
       let there = some_row (row_of number table.rows) (known ∙ left) in
       let row = there.0 in
       let stands = there.1 in
@@ -166,6 +172,8 @@ module _ (uploads : UploadsState) (plain : PlainState) (is : IsUploads uploads) 
       let copied : row.is_copied ≡ copies_from plain.plan number =
       subst (λ r. IfSome r (λ (row : ObjectRow). row.is_copied ≡ copies_from plain.plan number)) stands
       (shows.copied number) in
+      let held : row.is_held ≡ has plain.held number =
+      subst (λ r. IfSome r (λ (row : ObjectRow). row.is_held ≡ has plain.held number)) stands (shows.held number) in
       let dead = (is.known.unmapped number (row, stands, is_unmapped)).0 in
       record {
         row = row;
@@ -175,6 +183,7 @@ module _ (uploads : UploadsState) (plain : PlainState) (is : IsUploads uploads) 
         dead = live_of_dead row dead.0 (row_of number table.rows) stands dead.1 dead.3;
         no_pins = pins ∙ free;
         not_copied = copied ∙ not_true (copies_from plain.plan number) parts.2;
+        not_held = held ∙ not_true (has plain.held number) parts.3;
       }
 
 -- ---- the lowest of them
@@ -261,9 +270,12 @@ taken_shows_removal data_at old new plain number receipt was now valid shows nex
         unmapped = λ n. rw rows (shows.table.unmapped n);
         pins = λ n. rw rows (shows.table.pins n);
         copied = λ n. rw rows (shows.table.copied n);
+        held = λ n. rw rows (shows.table.held n);
         payload = λ n. rw rows (shows.table.payload n);
         free = sym pins ∙ removable.no_pins;
         gone = shows.table.gone;
+        kept = held_to queue.frontier new.uploads.queue.frontier plain.held (omega (arith, takes.rest.frontier))
+            shows.table.kept;
         reached = planned_more queue.frontier new.uploads.queue.frontier plain.plan (omega (arith, takes.rest.frontier))
             shows.table.reached;
       };
@@ -357,6 +369,7 @@ module _ (seen : TableSeen) (frontier number : ℕ) (rows : List ObjectRow)
         unmapped = tt;
         pins_are = sym free ∙ ap (λ m. times_pinned m seen.pins) same;
         copied = tt;
+        held_is = tt;
         payload_is = tt;
       })
   row_gone false n test shows =
@@ -369,6 +382,7 @@ module _ (seen : TableSeen) (frontier number : ℕ) (rows : List ObjectRow)
         unmapped = shows.unmapped;
         pins_are = shows.pins_are;
         copied = shows.copied;
+        held_is = shows.held_is;
         payload_is = shows.payload_is;
       })
 
@@ -402,6 +416,7 @@ finished_shows_removed data_at old new plain number was now shows out done batch
       newest = done.checkpoint ∙ shows.table.checkpoint;
       reached = omega (arith, rows.reached, done.rest.frontier);
       gone = All-append Below plain.removed (number ∷ []) shows.table.gone (All-cons Below number [] low (All-nil Below));
+      kept = held_to queue.frontier new.uploads.queue.frontier plain.held (omega (arith, done.rest.frontier)) shows.table.kept;
       planned = planned_more queue.frontier new.uploads.queue.frontier plain.plan (omega (arith, done.rest.frontier))
           shows.table.reached;
       rows_show = λ n. rw (done.rows, done.rest.frontier) (row_gone (seen_of live plain) queue.frontier
@@ -436,9 +451,12 @@ taken_back_shows_given_back data_at old new plain number receipt was now shows o
         unmapped = λ n. rw rows (shows.table.unmapped n);
         pins = λ n. rw rows (shows.table.pins n);
         copied = λ n. rw rows (shows.table.copied n);
+        held = λ n. rw rows (shows.table.held n);
         payload = λ n. rw rows (shows.table.payload n);
         free = tt;
         gone = shows.table.gone;
+        kept = held_to old.uploads.queue.frontier new.uploads.queue.frontier plain.held (omega (arith, back.rest.frontier))
+            shows.table.kept;
         reached = planned_more old.uploads.queue.frontier new.uploads.queue.frontier plain.plan
             (omega (arith, back.rest.frontier)) shows.table.reached;
       };

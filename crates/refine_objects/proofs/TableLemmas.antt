@@ -36,6 +36,7 @@ pub record HasSameTable (rows : List ObjectRow) (plain now : PlainState) : Type 
   pub removed : now.removed ≡ plain.removed
   pub pins : now.pins ≡ plain.pins
   pub plan : now.plan ≡ plain.plan
+  pub held : now.held ≡ plain.held
   pub payloads : (number : ℕ) (row : ObjectRow) → row_of number rows ≡ Some row → payload_of now number ≡ payload_of plain number
 
 -- and of two lists
@@ -61,10 +62,12 @@ same_table old new plain now of same shows = record {
   unmapped = λ number. rw (of.rows, same.checkpoint) (shows.unmapped number);
   pins = λ number. rw (of.rows, same.pins) (shows.pins number);
   copied = λ number. rw (of.rows, same.plan) (shows.copied number);
+  held = λ number. rw (of.rows, same.held) (shows.held number);
   payload = λ number. rw of.rows (payload_by (payload_of plain number) (payload_of now number)
       (row_of number old.maps.objects.rows) (same.payloads number) (shows.payload number));
   free = rw (same.removal, same.pins) shows.free;
   gone = rw (same.checkpoint, same.removed) shows.gone;
+  kept = rw (of.frontier, same.held) shows.kept;
   reached = rw (of.frontier, same.plan) shows.reached;
 }
 
@@ -76,6 +79,7 @@ same_itself rows plain = record {
   removed = refl;
   pins = refl;
   plan = refl;
+  held = refl;
   payloads = λ number row is. refl;
 }
 
@@ -93,6 +97,7 @@ same_window rows plain window = record {
   removed = refl;
   pins = refl;
   plan = refl;
+  held = refl;
   payloads = λ number row is. refl;
 }
 
@@ -130,6 +135,11 @@ one_copied : (test : Bool) (number : ℕ) → (1 == number) ≡ test → IfSome 
 one_copied true number test = rw test refl
 one_copied false number test = rw test tt
 
+one_held : (test : Bool) (number : ℕ) → (1 == number) ≡ test → IfSome (row_of number (new_row 1 0 0 ∷ [])) (λ row.
+    row.is_held ≡ false)
+one_held true number test = rw test refl
+one_held false number test = rw test tt
+
 one_payload : (test : Bool) (number : ℕ) (payload : ℕ) → (1 == number) ≡ test
     → IfSome (row_of number (new_row 1 0 0 ∷ [])) (λ row. 0 < row.live → row.payload ≡ payload)
 one_payload true number payload test = rw test (λ some. absurd (omega arith))
@@ -143,9 +153,11 @@ new_table_shows_created queue geometry frontier rows checkpoint removal = record
   unmapped = λ number. rw rows (one_unmapped (1 == number) number refl);
   pins = λ number. rw rows (one_pins (1 == number) number refl);
   copied = λ number. rw rows (one_copied (1 == number) number refl);
+  held = λ number. rw rows (one_held (1 == number) number refl);
   payload = λ number. rw rows (one_payload (1 == number) number (payload_of (created_volume geometry) number) refl);
   free = tt;
   gone = All-nil (λ (number : ℕ). number < 1);
+  kept = All-nil (λ (number : ℕ). number ≤ queue.frontier);
   reached = tt;
 }
 
@@ -161,6 +173,7 @@ table_shown_with_other_cache queue plain cache shows =
       removed = refl;
       pins = refl;
       plan = refl;
+      held = refl;
       payloads = λ number row is. refl;
     }) shows
 
@@ -191,6 +204,7 @@ added_shows_table old new plain entry data_at added valid shows =
       removed = refl;
       pins = refl;
       plan = refl;
+      held = refl;
       payloads = λ number row is. payload_with_entries plain (entry ∷ []) number valid;
     }) shows
 
@@ -212,6 +226,7 @@ sealed_shows_table data_at old new plain uploads valid shows sealed =
       removed = refl;
       pins = refl;
       plan = refl;
+      held = refl;
       payloads = λ number row is.
           payload_with_object plain (record { content = Data; end = end_of_next plain }) number valid
           (row_is_sealed data_at old plain uploads valid shows.objects number row is);

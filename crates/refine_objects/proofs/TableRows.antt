@@ -22,13 +22,14 @@ use Rattle.refine_objects.specs.Table.{times_pinned, passes_unmapped, ShowsTable
 
 -- ---- the row of a number
 
--- What rows are held against: the newest checkpoint, what was removed, the pins, the plan of a copy, how many sectors of payload
--- each object has, and how many are live.
+-- What rows are held against: the newest checkpoint, what was removed, the pins, the plan of a copy, what holds keep, how many
+-- sectors of payload each object has, and how many are live.
 pub record TableSeen : Type 0 where
   pub checkpoint : PlainCheckpoint
   pub removed : List ℕ
   pub pins : List ℕ
   pub plan : Option (List CopiedSector)
+  pub held : List ℕ
   pub payload : ℕ → ℕ
   pub live : ℕ → ℕ
 
@@ -39,19 +40,21 @@ seen_of live plain = record {
   removed = plain.removed;
   pins = plain.pins;
   plan = plain.plan;
+  held = plain.held;
   payload = payload_of plain;
   live = live;
 }
 
 -- What the row of a number shows: it is there where the number is not past the frontier and was not removed, and tells whether a
--- checkpoint passed it and does not map it, its pins, whether a plan takes sectors from it and, if it has a live one, its
--- payload.
+-- checkpoint passed it and does not map it, its pins, whether a plan takes sectors from it, whether a hold keeps it and, if it
+-- has a live sector, its payload.
 pub record RowShows (seen : TableSeen) (frontier number : ℕ) (found : Option ObjectRow) : Type 0 where
   pub known : 1 ≤ number → number ≤ frontier → is_some found ≡ not (has seen.removed number)
   pub above : frontier < number → found ≡ None
   pub unmapped : IfSome found (λ row. row.is_unmapped ≡ passes_unmapped seen.checkpoint number)
   pub pins_are : pins_of found ≡ times_pinned number seen.pins
   pub copied : IfSome found (λ row. row.is_copied ≡ copies_from seen.plan number)
+  pub held_is : IfSome found (λ row. row.is_held ≡ has seen.held number)
   pub payload_is : IfSome found (λ row. 0 < seen.live number → row.payload ≡ seen.payload number)
 
 -- ---- a row more
@@ -79,6 +82,18 @@ not_lower bound number (other ∷ removed) past all =
     let low : other < bound = All-head (λ (n : ℕ). n < bound) other removed all in
     let rest = not_lower bound number removed past (All-tail (λ (n : ℕ). n < bound) other removed all) in
     grind (arith, nat_tests, low, rest)
+
+-- what holds keep up to a number is not past a greater one
+pub held_to : (bound later : ℕ) (held : List ℕ) → bound ≤ later → All (λ number. number ≤ bound) held
+    → All (λ number. number ≤ later) held
+held_to bound later held more =
+    All-weaker (λ (n : ℕ). n ≤ bound) (λ (n : ℕ). n ≤ later) (λ n low. omega (arith, low, more)) held
+
+-- and no hold keeps one past those that holds keep
+none_held : (bound number : ℕ) (held : List ℕ) → bound < number → All (λ other. other ≤ bound) held → has held number ≡ false
+none_held bound number held past all =
+    not_lower (bound + 1) number held (omega (arith, past))
+    (All-weaker (λ (n : ℕ). n ≤ bound) (λ (n : ℕ). n < bound + 1) (λ n low. omega (arith, low)) held all)
 
 -- the number of a row that is there is not past the frontier
 pub not_past : (frontier number : ℕ) (row : ObjectRow) → (frontier < number → Some row ≡ None) → number ≤ frontier
@@ -116,7 +131,8 @@ planned_more frontier later (Some list) more reached =
     (λ c low. omega (arith, low, more)) list reached
 
 module _ (seen : TableSeen) (frontier payload front : ℕ) (reached : seen.checkpoint.number ≤ frontier + 1)
-    (gone : All (λ number. number < seen.checkpoint.number) seen.removed) (planned : IsPlannedTo frontier seen.plan)
+    (gone : All (λ number. number < seen.checkpoint.number) seen.removed)
+    (kept : All (λ number. number ≤ frontier) seen.held) (planned : IsPlannedTo frontier seen.plan)
     (payload_is : payload ≡ seen.payload (frontier + 1)) where
   abbrev next_row : ObjectRow
   next_row = new_row (frontier + 1) payload front
@@ -135,6 +151,7 @@ module _ (seen : TableSeen) (frontier payload front : ℕ) (reached : seen.check
         unmapped = rw later refl;
         pins_are = shows.pins_are;
         copied = sym (none_taken frontier number seen.plan (omega (arith, own)) planned);
+        held_is = sym (none_held frontier number seen.held (omega (arith, own)) kept);
         payload_is = λ some. payload_is ∙ ap seen.payload own;
       }
   added_by false number test shows =
@@ -146,6 +163,7 @@ module _ (seen : TableSeen) (frontier payload front : ℕ) (reached : seen.check
         unmapped = tt;
         pins_are = shows.pins_are;
         copied = tt;
+        held_is = tt;
         payload_is = tt;
       }
 
@@ -161,6 +179,7 @@ module _ (seen : TableSeen) (frontier payload front : ℕ) (reached : seen.check
         unmapped = shows.unmapped;
         pins_are = shows.pins_are;
         copied = shows.copied;
+        held_is = shows.held_is;
         payload_is = shows.payload_is;
       }
 
@@ -182,6 +201,7 @@ row_seen seen frontier number (Some old) (Some new) same shows =
       unmapped = ap (λ (r : ObjectRow). r.is_unmapped) view ∙ shows.unmapped;
       pins_are = ap (λ (r : ObjectRow). r.pins) view ∙ shows.pins_are;
       copied = ap (λ (r : ObjectRow). r.is_copied) view ∙ shows.copied;
+      held_is = ap (λ (r : ObjectRow). r.is_held) view ∙ shows.held_is;
       payload_is = λ some. ap (λ (r : ObjectRow). r.payload) view ∙ shows.payload_is some;
     }
 
@@ -210,6 +230,7 @@ row_passed seen after frontier number None past live shows = record {
   unmapped = tt;
   pins_are = shows.pins_are;
   copied = tt;
+  held_is = tt;
   payload_is = tt;
 }
 row_passed seen after frontier number (Some row) past live shows =
@@ -221,6 +242,7 @@ row_passed seen after frontier number (Some row) past live shows =
       unmapped = rw passes live;
       pins_are = shows.pins_are;
       copied = shows.copied;
+      held_is = shows.held_is;
       payload_is = shows.payload_is;
     }
 
@@ -232,6 +254,7 @@ pub record RowsShow (seen : TableSeen) (frontier : ℕ) (table : TableState) : T
   pub newest : table.checkpoint ≡ seen.checkpoint.number
   pub reached : seen.checkpoint.number ≤ frontier
   pub gone : All (λ number. number < seen.checkpoint.number) seen.removed
+  pub kept : All (λ number. number ≤ frontier) seen.held
   pub planned : IsPlannedTo frontier seen.plan
   pub rows_show : (number : ℕ) → RowShows seen frontier number (row_of number table.rows)
 
@@ -246,10 +269,11 @@ data_settled seen frontier payload front old new same payload_is shows =
       newest = same.checkpoint ∙ shows.newest;
       reached = omega (arith, reached);
       gone = shows.gone;
+      kept = held_to frontier (frontier + 1) seen.held (omega arith) shows.kept;
       planned = planned_more frontier (frontier + 1) seen.plan (omega arith) shows.planned;
       rows_show = λ number.
-          let more = row_added seen frontier payload front (omega (arith, reached)) shows.gone shows.planned payload_is number
-          (row_of number old.rows) (shows.rows_show number) in
+          let more = row_added seen frontier payload front (omega (arith, reached)) shows.gone shows.kept shows.planned payload_is
+          number (row_of number old.rows) (shows.rows_show number) in
           row_seen seen (frontier + 1) number (row_of number (old.rows ++ object ∷ []))
           (row_of number new.rows) (same_seen number (old.rows ++ object ∷ []) new.rows same.rows)
           (subst (RowShows seen (frontier + 1) number) (sym (row_of_more number old.rows object)) more);
@@ -270,6 +294,7 @@ checkpoint_settled seen after frontier old is live payload_is shows =
       newest = sym is;
       reached = omega (arith, is);
       gone = gone;
+      kept = held_to frontier (frontier + 1) seen.held (omega arith) shows.kept;
       planned = planned_more frontier (frontier + 1) seen.plan (omega arith) shows.planned;
       rows_show = λ number.
           let passed_is = row_passed seen after frontier number (row_of number old.rows) (omega (arith, is))
@@ -277,7 +302,7 @@ checkpoint_settled seen after frontier old is live payload_is shows =
           let there = subst (RowShows now frontier number)
           (sym (row_through passed number old.rows (λ r. refl))) passed_is in
           subst (RowShows now (frontier + 1) number) (sym (row_of_more number (map passed old.rows) object))
-          (row_added now frontier 0 0 (omega (arith, is)) gone shows.planned payload_is number
+          (row_added now frontier 0 0 (omega (arith, is)) gone shows.kept shows.planned payload_is number
           (row_of number (map passed old.rows)) there);
     }
 
@@ -329,6 +354,7 @@ rows_of_shown live uploads plain is some shows =
       newest = shows.checkpoint;
       reached = omega (arith, shows.checkpoint, is.known.checkpoint);
       gone = shows.gone;
+      kept = shows.kept;
       planned = shows.reached;
       rows_show = λ number. record {
         known = shows.known number;
@@ -336,6 +362,7 @@ rows_of_shown live uploads plain is some shows =
         unmapped = shows.unmapped number;
         pins_are = shows.pins number;
         copied = shows.copied number;
+        held_is = shows.held number;
         payload_is = payload_by_live (payload_of plain number) (live number) (row_of number rows) (some number)
             (shows.payload number);
       };
@@ -351,10 +378,12 @@ shown_by_rows live new now removal free some rows = record {
   unmapped = λ number. (rows.rows_show number).unmapped;
   pins = λ number. (rows.rows_show number).pins_are;
   copied = λ number. (rows.rows_show number).copied;
+  held = λ number. (rows.rows_show number).held_is;
   payload = λ number.
       payload_of_live (payload_of now number) (live number) (row_of number new.maps.objects.rows) (some number)
       (rows.rows_show number).payload_is;
   free = free;
   gone = rows.gone;
+  kept = rows.kept;
   reached = rows.planned;
 }

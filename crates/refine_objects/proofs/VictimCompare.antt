@@ -1,10 +1,11 @@
 -- Victims compare: of two one comes before the other, and it goes on over a third.
 use Rattle.std.proofs.Common.{◌≡◌, ℕ, ◌==◌, ◌*◌, ◌<◌, ◌≤◌, ◌&&◌, ◌||◌, Bool, true, false, ap, arith}
-use Rattle.std.specs.Prelude.{nat_lt, IsTrue}
+use Rattle.std.specs.Prelude.{nat_lt, not, IsTrue}
 use Rattle.std.proofs.Math.Nat.{mul-le-mul_right, le_of_mul-le-mul_right}
 use Rattle.std.proofs.lemmas.Bool.{and_parts}
 use Rattle.std.proofs.lemmas.Bool.Decides.{nat_tests}
 use Rattle.plain_disk.specs.State.{PlainState, payload_of}
+use Rattle.plain_disk.specs.Removals.{has}
 use Rattle.plain_disk.specs.Collection.{live_in, is_victim, comes_before}
 
 -- ---- shares as products, and numbers where these are equal
@@ -67,7 +68,8 @@ module _ (plain : PlainState) where
 
   some_payload : (number : ℕ) → IsVictim number → 0 < payload_of plain number
   some_payload number is =
-      let few = (and_parts (nat_lt 0 (live_in plain number)) _ is).1 in
+      let poor = nat_lt 0 (live_in plain number) && nat_lt (live_in plain number * 100) (70 * payload_of plain number) in
+      let few = (and_parts (nat_lt 0 (live_in plain number)) _ (and_parts poor (not (has plain.held number)) is).0).1 in
       grind (arith, nat_tests, few)
 
   pub one_way : (a b : ℕ) → comes_before plain a b ≡ true → comes_before plain b a ≡ false

@@ -1,7 +1,7 @@
 -- The victims of a table whose rows show a plain volume are that volume's, and so are the sectors that are planned of them.
 use Rattle.std.proofs.Common.{◌≡◌, ℕ, suc, ◌*◌, ◌<◌, ◌≤◌, ◌==◌, ◌&&◌, ◌||◌, cond, Bool, true, false, Option, Some, None}
 use Rattle.std.proofs.Common.{List, [], ◌∷◌, length, refl, sym, ◌∙◌, ap, subst, arith}
-use Rattle.std.specs.Prelude.{IsTrue, IsSome, IfSome, nat_lt}
+use Rattle.std.specs.Prelude.{not, IsTrue, IsSome, IfSome, nat_lt}
 use Rattle.std.specs.List.{All, AllByRecursion, AllPairs, filter, list_any, range_with_len}
 use Rattle.std.proofs.lemmas.Bool.Decides.{nat_tests}
 use Rattle.std.proofs.lemmas.List.Elements.{All-nil, All-cons, All-head, All-tail, All-filter, filter_passes}
@@ -28,6 +28,7 @@ use Rattle.volume_maps.proofs.LossLemmas.{known_at}
 use Rattle.volume_maps.proofs.RowsLemmas.{is_in, in_range, same_pass}
 use Rattle.volume_maps.proofs.VictimLemmas.{different_pass}
 use Rattle.plain_disk.specs.State.{PlainState, stream_in, frontier_of, payload_of}
+use Rattle.plain_disk.specs.Removals.{has}
 use Rattle.plain_disk.specs.Collection.{live_sectors, live_in, is_victim, comes_before, victims, planned_copy}
 use Rattle.plain_disk.proofs.CheckpointLemmas.{both_true, same_number}
 use Rattle.refine_objects.proofs.RowPayload.{counted}
@@ -143,6 +144,7 @@ pub record RowsAre (plain : PlainState) (maps : MapsState) : Type 0 where
   pub inside : (k : ℕ) → IfSome (settled_at maps k) (λ (place : ObjectPlace). k < plain.geometry.sectors)
   pub payload : (number : ℕ) → IfSome (row_of number maps.objects.rows) (λ row.
       0 < row.live → row.payload ≡ payload_of plain number)
+  pub held : (number : ℕ) → IfSome (row_of number maps.objects.rows) (λ row. row.is_held ≡ has plain.held number)
 
 module _ (plain : PlainState) (maps : MapsState) (is : RowsAre plain maps) where
   abbrev rows : List ObjectRow
@@ -203,8 +205,13 @@ module _ (plain : PlainState) (maps : MapsState) (is : RowsAre plain maps) where
       let payload : 0 < row.live → row.payload ≡ payload_of plain number =
       subst (λ found. IfSome found (λ (r : ObjectRow). 0 < r.live → r.payload ≡ payload_of plain number)) at
       (is.payload number) in
+      let held : row.is_held ≡ has plain.held number =
+      subst (λ found. IfSome found (λ (r : ObjectRow). r.is_held ≡ has plain.held number)) at (is.held number) in
+      let poor =
       candidate_by (nat_lt 0 row.live) row.live (live_in plain number) row.payload (payload_of plain number) refl
-      (row_live number row at) payload
+      (row_live number row at) payload in
+      ap (λ h. nat_lt 0 row.live && nat_lt (row.live * 100) (70 * row.payload) && not h) held
+      ∙ ap (λ b. b && not (has plain.held number)) poor
 
   -- an object that has no row has no live sector
   no_place : (number k : ℕ) (place : Option ObjectPlace) → settled_at maps k ≡ place → row_of number rows ≡ None
@@ -240,7 +247,7 @@ module _ (plain : PlainState) (maps : MapsState) (is : RowsAre plain maps) where
   victim_by number None at =
       let none : nat_lt 0 (live_in plain number) ≡ false = ap (nat_lt 0) (no_live number at) in
       ap (λ b. is_within 1 (frontier_of plain) number
-      && (b && nat_lt (live_in plain number * 100) (70 * payload_of plain number))) none
+      && (b && nat_lt (live_in plain number * 100) (70 * payload_of plain number) && not (has plain.held number))) none
       ∙ and_false (is_within 1 (frontier_of plain) number)
   victim_by number (Some row) at =
       let named = its_number number rows row at in
@@ -264,7 +271,9 @@ module _ (plain : PlainState) (maps : MapsState) (is : RowsAre plain maps) where
   shows_by number None at = tt
   shows_by number (Some row) at = λ candidate.
       let named = its_number number rows row at in
-      let some = both_true (nat_lt 0 row.live) (nat_lt (row.live * 100) (70 * row.payload)) candidate in
+      let few = nat_lt (row.live * 100) (70 * row.payload) in
+      let poor = both_true (nat_lt 0 row.live && few) (not row.is_held) candidate in
+      let some = both_true (nat_lt 0 row.live) few poor.0 in
       let positive : 0 < row.live = grind (arith, nat_tests, some) in
       let payload : 0 < row.live → row.payload ≡ payload_of plain number =
       subst (λ f. IfSome f (λ (r : ObjectRow). 0 < r.live → r.payload ≡ payload_of plain number)) at (is.payload number) in

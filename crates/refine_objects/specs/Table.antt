@@ -20,9 +20,9 @@ passes_unmapped checkpoint number = nat_lt number checkpoint.number && not (maps
 
 -- The table shows a plain volume: the newest acknowledged checkpoint is the same, and the removal that is out; it has just the
 -- objects up to the frontier that were not removed, says of each whether that checkpoint passed it and does not map it, how often
--- it is pinned, and whether the plan of a copy that is out takes sectors from it; and of one with a live sector how many sectors
--- of payload it has. What is being removed is not pinned, and what was removed that checkpoint came after. A plan takes sectors
--- from objects up to the frontier alone.
+-- it is pinned, whether the plan of a copy that is out takes sectors from it, and whether a hold keeps it; and of one with a live
+-- sector how many sectors of payload it has. What is being removed is not pinned, and what was removed is before that checkpoint.
+-- What holds keep is not past the frontier, and a plan takes sectors from objects up to it alone.
 pub record ShowsTable (queue : QueueState) (plain : PlainState) : Type 0 where
   pub checkpoint : queue.maps.objects.checkpoint ≡ plain.checkpoint.number
   pub removal : queue.removal ≡ plain.removal
@@ -33,8 +33,11 @@ pub record ShowsTable (queue : QueueState) (plain : PlainState) : Type 0 where
   pub pins : (number : ℕ) → pins_of (row_of number queue.maps.objects.rows) ≡ times_pinned number plain.pins
   pub copied : (number : ℕ) → IfSome (row_of number queue.maps.objects.rows) (λ row.
       row.is_copied ≡ copies_from plain.plan number)
+  pub held : (number : ℕ) → IfSome (row_of number queue.maps.objects.rows) (λ row.
+      row.is_held ≡ has plain.held number)
   pub payload : (number : ℕ) → IfSome (row_of number queue.maps.objects.rows) (λ row.
       0 < row.live → row.payload ≡ payload_of plain number)
   pub free : IfSome plain.removal (λ number. times_pinned number plain.pins ≡ 0)
   pub gone : All (λ number. number < plain.checkpoint.number) plain.removed
+  pub kept : All (λ number. number ≤ queue.frontier) plain.held
   pub reached : IfSome plain.plan (All (λ (copied : CopiedSector). copied.source ≤ queue.frontier))

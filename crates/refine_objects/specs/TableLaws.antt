@@ -12,7 +12,7 @@ use Rattle.object_uploads.specs.Queue.{pins_of, newest_checkpoint}
 use Rattle.object_uploads.specs.Order.{IsUploads}
 use Rattle.object_uploads.specs.Changes.{with_job, IsOut, IsPutDone}
 use Rattle.object_uploads.specs.Checkpoint.{HasSealedCheckpoint}
-use Rattle.object_uploads.specs.Removal.{IsRemovedNext, HasChangedPins, PinsEach, UnpinsEach, TakesRemoval, FinishesRemoval}
+use Rattle.object_uploads.specs.Removal.{IsRemovedNext, HasChangedRow, PinsEach, UnpinsEach, TakesRemoval, FinishesRemoval}
 use Rattle.object_uploads.specs.Removal.{TakesBackRemoval}
 use Rattle.obj_log.specs.State.{ObjLogState}
 use Rattle.obj_log.specs.Changes.{IsSame, IsAdded, HasSealedObject}
@@ -157,7 +157,7 @@ abbrev pub PinnedShowsPin : Type 0
 PinnedShowsPin =
     (data_at : ℕ → ℕ) (old new : ObjLogState) (plain : PlainState) (number k : ℕ)
     → IsUploads old.uploads → IsUploads new.uploads → IsPlainVolume plain → ShowsBoth data_at old plain
-    → is_read_from plain number k ≡ true → HasChangedPins pinned number old.uploads new.uploads → new.batch ≡ old.batch
+    → is_read_from plain number k ≡ true → HasChangedRow pinned number old.uploads new.uploads → new.batch ≡ old.batch
     → ShowsBoth data_at new (record plain { pins = plain.pins ++ number ∷ [] })
 
 -- and one pin of it is given back
@@ -165,7 +165,7 @@ abbrev pub UnpinnedShowsUnpin : Type 0
 UnpinnedShowsUnpin =
     (data_at : ℕ → ℕ) (old new : ObjLogState) (plain : PlainState) (number : ℕ)
     → IsUploads old.uploads → ShowsBoth data_at old plain
-    → HasChangedPins unpinned number old.uploads new.uploads → new.batch ≡ old.batch
+    → HasChangedRow unpinned number old.uploads new.uploads → new.batch ≡ old.batch
     → ShowsBoth data_at new (record plain { pins = without_pin number plain.pins })
 
 -- the objects of a plan are pinned, one after the other, each of which a sector is read from

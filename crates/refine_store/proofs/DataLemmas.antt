@@ -3,7 +3,6 @@ use Rattle.std.proofs.Common.{◌≡◌, ℕ, true, false, Bool, ◌&&◌, Optio
 use Rattle.std.proofs.Common.{[], ◌∷◌, ◌-◌, ◌*◌, drop, subst}
 use Rattle.std.specs.Prelude.{IsTrue, option_map}
 use Rattle.std.specs.List.{slice_get}
-use Rattle.std.specs.Global.{Vec}
 use Rattle.lsvd_base.specs.declared.entry.Entry.{Entry}
 use Rattle.lsvd_objstore.specs.Objects.{Objects, found}
 use Rattle.extent_map.specs.declared.extent.Extent.{Extent}

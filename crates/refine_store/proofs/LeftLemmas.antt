@@ -252,6 +252,7 @@ module _ (uuid : List ℕ) (epoch : ℕ) (plain : PlainState) (puts : ℕ → Op
         none_first = left.held.none_else 0 are.none_first;
         missing = none_of (found objects (object_name volume (number + 1)))
             (first_missing plain landed valid left.blank left.seals may_land).absent;
+        holds = left.holds;
         past = λ other bytes after there.
             (let has = sectors_there other bytes (omega (arith, after, from.3)) there in
             is_whole volume other (end_at (stream_in plain) (other - 1)) bytes has.2.header has.2.rows has.2.payload

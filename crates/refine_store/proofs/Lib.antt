@@ -12,3 +12,4 @@ pub mod VolumeLemmas
 pub mod LeftLemmas
 pub mod StandLemmas
 pub mod PayloadLemmas
+pub mod HoldLemmas

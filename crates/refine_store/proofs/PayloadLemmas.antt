@@ -1,7 +1,7 @@
 -- The payload of a plain volume's object in a store is what the volume knows.
-use Rattle.std.proofs.Common.{◌≡◌, ℕ, zero, suc, ◌+◌, ◌-◌, ◌<◌, ◌≤◌, inl, inr, Option, Some, None, List, [], ◌∷◌, length, take}
+use Rattle.std.proofs.Common.{◌≡◌, ℕ, zero, suc, ◌+◌, ◌-◌, ◌<◌, ◌≤◌, inl, inr, Some, List, [], ◌∷◌, length, take}
 use Rattle.std.proofs.Common.{drop}
-use Rattle.std.proofs.Common.{get_or, refl, sym, ◌∙◌, ap, subst, arith}
+use Rattle.std.proofs.Common.{get_or, sym, ◌∙◌, ap, subst, arith}
 use Rattle.std.specs.List.{slice_get}
 use Rattle.lsvd_base.specs.declared.entry.Entry.{Entry}
 use Rattle.object_format.specs.declared.expected.Expected.{Expected}
@@ -15,7 +15,6 @@ use Rattle.ckpt_format.proofs.CheckpointLemmas.{header_of_both}
 use Rattle.object_stream.specs.declared.object.Content.{Content}
 use Rattle.object_stream.specs.declared.object.Content.TheVariants.{Data, Copy, Checkpoint}
 use Rattle.object_stream.specs.declared.object.StreamObject.{StreamObject}
-use Rattle.object_stream.specs.Laws.{from_object}
 use Rattle.object_stream.specs.Replay.{HasParts, expected_at}
 use Rattle.object_stream.specs.Stream.{Stream, owners, end_after, end_at, last_number, entries_in_object, place_in_object}
 use Rattle.object_uploads.specs.Stream.{HoldsOwners, HoldsContent}
@@ -25,7 +24,7 @@ use Rattle.plain_disk.specs.Valid.{IsPlainVolume}
 use Rattle.refine_objects.proofs.PayloadsOf.{payload_past}
 use Rattle.refine_objects.proofs.RowPayload.{data_rank, copy_rank}
 use Rattle.refine_store.specs.Puts.{IsOpeningObject, IsLaterObject, IsObjectOf}
-use Rattle.refine_store.proofs.DataLemmas.{AreContentRows, HasSectors, sectors_of_content, owners_of_content, checkpoint_or}
+use Rattle.refine_store.proofs.DataLemmas.{AreContentRows, sectors_of_content, owners_of_content}
 use Rattle.refine_store.proofs.ObjectLemmas.{end_up_to}
 
 -- ---- by its rows

@@ -166,6 +166,7 @@ module _ (uuid : List ℕ) (epoch : ℕ) (plain : PlainState) (landed : Numbers)
             puts_are = λ other state bytes is. may_hold (found objects (object_name volume other)) state bytes is;
             none_else = λ other is. holds_none (found objects (object_name volume other)) is;
           };
+          holds = has_it.holds;
         }
 
         made_stands : (uploads : UploadsState) → StoreStands uuid epoch made uploads objects
@@ -245,6 +246,7 @@ stands_with_any_cache uuid epoch plain cache uploads objects stands =
         };
         seals = record { sealed = seals.sealed; marked = seals.marked; removed = seals.removed; out = seals.out };
         held = stands.left.held;
+        holds = stands.left.holds;
       };
       sealed = stands.sealed;
       out = stands.out;

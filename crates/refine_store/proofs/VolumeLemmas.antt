@@ -651,6 +651,7 @@ module _ (uuid : List ℕ) (epoch : ℕ) (plain : PlainState) (landed : Numbers)
     gone = refl;
     present = present;
     payloads = payload_there;
+    holds = has_it.holds;
     stored = record {
       own = refl;
       valid = there_valid.stream;

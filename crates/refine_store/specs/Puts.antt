@@ -26,6 +26,7 @@ use Rattle.plain_disk.specs.State.{PlainState, OpensBlank, stream_in}
 use Rattle.plain_disk.specs.Removals.{has}
 use Rattle.plain_disk.specs.Found.{SealsCheckpoints}
 use Rattle.object_recovery.specs.Checkpoints.{expected_of}
+use Rattle.refine_mount.specs.Found.{HasHolds}
 
 -- ---- the bytes of an object
 
@@ -95,10 +96,12 @@ pub record ArePuts (volume : Expected) (plain : PlainState) (puts : ℕ → Opti
 -- ---- a stop
 
 -- What a stop may leave of the store of a plain volume that is followed from its first object on: its super object and its
--- epochs, of which this is the newest, and of each of its objects what its put, and a removal, allow.
+-- epochs, of which this is the newest, of each of its objects what its put, and a removal, allow, and the holds that keep those
+-- which the volume has as held.
 pub record MayBeLeft (uuid : List ℕ) (epoch : ℕ) (plain : PlainState) (puts : ℕ → Option (PutState × List ℕ))
     (objects : Objects) : Type 0 where
   pub described : HasVolume uuid plain.geometry epoch objects
   pub blank : OpensBlank plain
   pub seals : SealsCheckpoints plain
   pub held : MayHoldPuts (expected_of uuid plain.geometry) puts objects
+  pub holds : HasHolds (expected_of uuid plain.geometry) plain.held objects

@@ -20,6 +20,7 @@ use Rattle.stopped_volume.specs.Opening.{IsCheckpointOf}
 use Rattle.stopped_volume.specs.Store.{PutState}
 use Rattle.stopped_volume.specs.Store.PutState.{Begun}
 use Rattle.stopped_volume.specs.Super.{HasVolume}
+use Rattle.refine_mount.specs.Found.{HasHolds}
 use Rattle.refine_store.specs.Puts.{IsObjectOf, ArePuts, MayBeLeft}
 
 -- A store stands for a plain volume, whose objects on their way are these: it has the volume in this epoch, and each object that
@@ -36,8 +37,9 @@ pub record StoreStands (uuid : List ℕ) (epoch : ℕ) (plain : PlainState) (upl
   pub out : IfSome plain.removal (λ number. has plain.given_out number ≡ true)
 
 -- A store has a plain volume up to the object before the first missing number, of these that have landed: the volume in this
--- epoch, each object up to there that has landed, which is the plain volume's, and no other up to there, and none of the missing
--- number. What it has past that is whole and no checkpoint, and is for a mount to remove.
+-- epoch, each object up to there that has landed, which is the plain volume's, and no other up to there, none of the missing
+-- number, and the holds that keep those which the plain volume has as held. What it has past that is whole and no checkpoint, and
+-- is for a mount to remove.
 pub record HasVolumeUpTo (uuid : List ℕ) (epoch : ℕ) (plain : PlainState) (landed : Numbers) (objects : Objects) : Type 0 where
   pub described : HasVolume uuid plain.geometry epoch objects
   pub blank : OpensBlank plain
@@ -50,6 +52,7 @@ pub record HasVolumeUpTo (uuid : List ℕ) (epoch : ℕ) (plain : PlainState) (l
       → found objects (object_name (expected_of uuid plain.geometry) number) ≡ None
   pub none_first : found objects (object_name (expected_of uuid plain.geometry) 0) ≡ None
   pub missing : found objects (object_name (expected_of uuid plain.geometry) (recovered_number landed plain + 1)) ≡ None
+  pub holds : HasHolds (expected_of uuid plain.geometry) plain.held objects
   pub past : AreWholePast (expected_of uuid plain.geometry) objects (recovered_number landed plain)
   pub no_checkpoint : (number end : ℕ) (owned : Owners) → recovered_number landed plain < number
       → IsCheckpointOf (expected_of uuid plain.geometry) objects number end owned → ⊥

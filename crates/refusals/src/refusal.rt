@@ -21,13 +21,14 @@ pub enum Refusal {
     NoCheckpoint,
     /// 4: the object of this number, past the newest checkpoint, is not of the grammar, or is before the
     /// first missing number and does not go on where the object before it ends. It is the greatest such
-    /// number.
+    /// number. Or none is, and a hold names the object of this number, which is no checkpoint.
     #[error("bad object {number}: {reason}")]
     BadObject { number: u64, reason: BadObject },
     /// 4, with the reason 9, which no bytes of an object have: the newest checkpoint maps a sector to the
     /// object of this number, which does not have it there. It is absent, is no data object or copy of the
-    /// grammar, or its payload has no such place.
-    #[error("object {number} does not have what the newest checkpoint maps to it")]
+    /// grammar, or its payload has no such place. Or a hold names the checkpoint of this number, which is
+    /// absent.
+    #[error("object {number} is absent, or does not have what the newest checkpoint maps to it")]
     MissingObject { number: u64 },
     /// 5: the device is the cache of this volume in another epoch than the newest that the store has: a mount
     /// without the cache came between.

@@ -10,7 +10,7 @@ use Rattle.std.proofs.lemmas.List.{length-take-le, length_push, take_more}
 use Rattle.lsvd_base.specs.declared.geometry.Geometry.{Geometry}
 use Rattle.lsvd_fault.specs.Faults.{Counts, CountsOne}
 use Rattle.lsvd_names.specs.declared.name.ObjName.{ObjName}
-use Rattle.lsvd_names.specs.Names.{super_name, numbered_name}
+use Rattle.lsvd_names.specs.Names.{super_name, numbered_name, hold_name}
 use Rattle.lsvd_device.specs.Medium.{Medium}
 use Rattle.lsvd_device.specs.Calls.{Fuse, Budget, Cost, Takes, fuse_of, passes, fuse_after}
 use Rattle.lsvd_device.specs.Device.{DiskState, HoldsNow, MakesCalls}
@@ -165,6 +165,7 @@ new_volume geometry disk volume old new fails blank empty created =
       described = new_one.0;
       first = new_first geometry uploads new (new_one.2 uploads);
       none_else = λ number other. new_alone geometry uploads new number (new_one.2 uploads) other;
+      holds = (new_one.2 uploads).left.holds;
     }
 
 -- what ends a creation is want of memory alone
@@ -243,6 +244,7 @@ removes_numbers number old new removed = record {
     | inl same ↦ same ∙ none
     | inr gone ↦ gone
   ];
+  holds = λ n. removed.removes.others (hold_name script_uuid n) (λ past. (let e = past.1.0 in cc));
 }
 
 pub mounted_again : (geometry : Geometry) (disk : DiskState) (mounted : MountedState) (old new : Objects)
@@ -288,6 +290,9 @@ begun_numbers number epoch old new begun =
       stay = λ n low. same n ∙ before.stay n low;
       gone = λ n past fits. same n ∙ before.gone n past fits;
       none = λ n none. same n ∙ before.none n none;
+      holds = λ n.
+          put.others (hold_name script_uuid n) (λ same. (let e = ap (λ (name : ObjName). name.kind) same in cc))
+          ∙ before.holds n;
     }
 
 pub mounted_anew : (disk : DiskState) (mounted : MountedState) (old new : Objects) → FailsNone format_cost disk

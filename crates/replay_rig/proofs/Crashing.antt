@@ -23,12 +23,13 @@ use Rattle.plain_disk.specs.Checkpoints.{checkpoint_at, newest_landed, landed_ch
 use Rattle.plain_disk.specs.Removals.{has, absent_of}
 use Rattle.plain_disk.specs.State.{PlainState, PlainCheckpoint, stream_in}
 use Rattle.plain_disk.specs.Stops.{landed_after, recovered_number, found_with, mounted_from, mounted_lost}
+use Rattle.refine_mount.specs.Found.{HasHolds}
 use Rattle.refine_store.specs.Puts.{IsObjectOf, state_of_put, AreBytesOfPut, ArePuts, MayBeLeft}
 use Rattle.transcript.specs.Letters.{under_way, has_landed, landed_by}
 use Rattle.replay_rig.specs.Puts.{PutView}
 use Rattle.replay_rig.specs.Rig.{RigState, script_uuid, expected_of_plain, AreUnderWay, IsFirstUnderWay, HasBytesOfObject}
 use Rattle.replay_rig.specs.Rig.{IsKeptObject, ShowsPlain, LandsAs, Lands}
-use Rattle.replay_rig.proofs.Describing.{lands_keep_volume}
+use Rattle.replay_rig.proofs.Describing.{lands_keep_volume, lands_leave_none}
 use Rattle.replay_rig.proofs.Stepped.{all_puts}
 use Rattle.replay_rig.proofs.WindowLemmas.{under_way_numbers}
 use Rattle.replay_rig.proofs.Putting.{open_within, open_is_kept}
@@ -518,6 +519,9 @@ module _ (rig : RigState) (plain : PlainState) (letters : List ℕ) (new : Objec
     described = lands_keep_volume rig.puts letters rig.objects new plain.geometry h.epoch lands h.described;
     blank = h.opens;
     seals = h.seals;
+    holds =
+        subst (λ held. HasHolds (expected_of_plain plain) held new) (sym h.unheld)
+        (lands_leave_none rig.puts letters rig.objects new plain.geometry lands h.holds);
     held = record {
       puts_are = λ n state bytes is. puts_held n state bytes (is_known plain n) refl is;
       none_else = λ n is. none_held n (is_known plain n) refl is;

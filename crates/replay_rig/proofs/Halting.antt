@@ -136,6 +136,8 @@ stopping_rig calls old volume plain h none rest shows budget =
             (had.0, had.1, object_with_cache (expected_of_plain plain) plain cache number had.0 had.2);
         none_else = λ number not_. h.stored.none_else number (λ is. not_ (kept_with_cache plain cache number is));
       };
+      unheld = h.unheld;
+      holds = h.holds;
       removes = record { none_out = h.removes.none_out; gone = h.removes.gone };
       young = record {
         entries = omega (arith, h.young.entries);

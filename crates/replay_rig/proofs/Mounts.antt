@@ -48,6 +48,7 @@ use Rattle.refine_log.specs.Stops.{HasCommit}
 use Rattle.refine_mount.specs.Mounted.{end_of_object, mounted_with, mounted_without}
 use Rattle.refine_mount.proofs.AsFoundLemmas.{mounts_as_found, found_has_commit}
 use Rattle.refine_mount.proofs.LeftLemmas.{fates_keep_commit}
+use Rattle.refine_mount.specs.Found.{HasHolds}
 use Rattle.refine_store.specs.Puts.{IsObjectOf, state_of_put, AreBytesOfPut}
 use Rattle.refine_store.specs.Stored.{StoreStands, HasVolumeUpTo}
 use Rattle.refine_store.proofs.StandLemmas.{mounted_stands}
@@ -307,6 +308,7 @@ pub record IsRestingOf (plain made : PlainState) : Type 0 where
   pub none_out : made.removal ≡ None
   pub opens : OpensBlank made
   pub seals : SealsCheckpoints made
+  pub held : made.held ≡ plain.held
   pub told : made.cache.left ≡ None
   pub pending : made.cache.pending ≡ []
   pub finished : made.cache.log.unfinished ≡ None
@@ -374,12 +376,13 @@ module _ (rig : RigState) (plain : PlainState) (letters : List ℕ) (new after :
       | inl past ↦ inr (none_left n past)
       | inr low ↦ inl (removed.stay n (omega (arith, low)))
     ];
+    holds = removed.holds;
   }
 
   still_up_to : HasVolumeUpTo script_uuid epoch plain (landed_left new plain) after
   still_up_to =
-      keeps_up_to script_uuid new after h.epoch epoch plain (landed_left new plain) keeps (up_to rig plain letters new h lands)
-      was.described
+      keeps_up_to script_uuid new after h.epoch epoch plain (landed_left new plain) h.shows.valid keeps
+      (up_to rig plain letters new h lands) was.described
 
   -- so it stands for what was made
   pub mounts_stand : (found : PlainCommit)
@@ -420,6 +423,9 @@ module _ (rig : RigState) (plain : PlainState) (letters : List ℕ) (new after :
         put_objects = tt;
         bytes = tt;
         stored = has_stored epoch made mounted.volume.volume.objects.uploads after rests.objects rests.gone stands;
+        unheld = rests.held ∙ h.unheld;
+        holds =
+            subst (λ held. HasHolds (expected_of_plain made) held after) (rests.held ∙ h.unheld) stands.left.holds;
         removes = record { none_out = rests.none_out; gone = rests.gone };
         young = record {
           entries = omega (arith, rests.entries, h.young.entries);
@@ -497,6 +503,7 @@ module _ (rig : RigState) (plain : PlainState) (letters : List ℕ) (new : Objec
     none_out = refl;
     opens = (mounts_keep_opening plain landed found plain.geometry.log h.opens).0;
     seals = (mounts_seal plain landed found plain.geometry.log h.shows.valid h.seals).0;
+    held = refl;
     told = refl;
     pending = refl;
     finished = refl;
@@ -517,6 +524,7 @@ module _ (rig : RigState) (plain : PlainState) (letters : List ℕ) (new : Objec
         none_out = refl;
         opens = subst OpensBlank (sym loses) (mounts_keep_opening plain landed found plain.geometry.log h.opens).1;
         seals = subst SealsCheckpoints (sym loses) (mounts_seal plain landed found plain.geometry.log h.shows.valid h.seals).1;
+        held = refl;
         told = refl;
         pending = refl;
         finished = refl;

@@ -69,6 +69,8 @@ new_rig geometry volume objects new =
               kept = refl;
             }));
       };
+      unheld = refl;
+      holds = new.holds;
       removes = record { none_out = refl; gone = refl };
       young = record {
         entries = omega arith;

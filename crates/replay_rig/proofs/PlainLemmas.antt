@@ -66,14 +66,15 @@ entering_told plain entry =
 
 -- ---- sizes
 
--- a volume opens where another one does, has an entry and an object more at most, and its device was told to stop as that one's
--- was
+-- a volume opens where another one does, has an entry and an object more at most, its device was told to stop as that one's was,
+-- and holds keep the same objects
 pub record GrowsByOne (old new : PlainState) : Type 0 where
   pub geometry : new.geometry ≡ old.geometry
   pub end : new.end ≡ old.end
   pub entries : length new.entries ≤ length old.entries + 1
   pub last : new.window.last ≤ old.window.last + 1
   pub told : is_some new.cache.left ≡ is_some old.cache.left
+  pub held : new.held ≡ old.held
 
 same_grows : (plain : PlainState) → GrowsByOne plain plain
 same_grows plain = record {
@@ -82,6 +83,7 @@ same_grows plain = record {
   entries = omega arith;
   last = omega arith;
   told = refl;
+  held = refl;
 }
 
 either_grows : (plain : PlainState) (b : Bool) (x y : PlainState) → GrowsByOne plain x → GrowsByOne plain y
@@ -100,6 +102,7 @@ entering_grows plain entry = record {
   entries = either_length (comes_to_log plain entry && passes_entry (cache_for plain entry) entry) entry plain.entries;
   last = omega arith;
   told = entering_told plain entry;
+  held = refl;
 }
 
 -- another cache, and other pins
@@ -111,6 +114,7 @@ cache_grows plain cache pins told = record {
   entries = omega arith;
   last = omega arith;
   told = told;
+  held = refl;
 }
 
 -- other objects, and another window
@@ -123,6 +127,7 @@ window_grows plain objects window checkpoint last = record {
   entries = omega arith;
   last = last;
   told = refl;
+  held = refl;
 }
 
 take_last : (lowest : Option ℕ) (window : WindowState) → (window_after_take lowest window).last ≡ window.last
@@ -150,6 +155,7 @@ removal_grows plain removed given_out removal = record {
   entries = omega arith;
   last = omega arith;
   told = refl;
+  held = refl;
 }
 
 taking_grows : (plain : PlainState) (out lowest : Option ℕ) → GrowsByOne plain (with_removal out lowest plain)
@@ -165,6 +171,7 @@ with_plan_grows plain plan = record {
   entries = omega arith;
   last = omega arith;
   told = refl;
+  held = refl;
 }
 
 plan_grows : (plain : PlainState) (out : Option (List CopiedSector)) (sectors : List CopiedSector)
@@ -183,6 +190,7 @@ copy_grows plain true (Some plan) = record {
   entries = omega arith;
   last = omega arith;
   told = refl;
+  held = refl;
 }
 
 pub event_grows : (plain : PlainState) (event : PlainEvent) → GrowsByOne plain (plain_after event plain)

@@ -15,6 +15,7 @@ use Rattle.lsvd_objstore.specs.Memory.{Kept, told_receipt}
 use Rattle.lsvd_objstore.specs.Store.{ReceiptState}
 use Rattle.lsvd_objstore.specs.Objects.{Objects, found, IsPut}
 use Rattle.object_recovery.specs.Checkpoints.{expected_of}
+use Rattle.refine_mount.specs.Found.{HasHolds}
 use Rattle.object_uploads.specs.State.{JobState}
 use Rattle.object_uploads.specs.Order.{IsUploads}
 use Rattle.object_uploads.specs.Image.{TellAlike}
@@ -57,7 +58,7 @@ use Rattle.replay_rig.specs.declared.answer.Answer.TheVariants as answers
 use Rattle.replay_rig.specs.Answers.{SaysReply, SaysCounts}
 use Rattle.replay_rig.specs.Steps.{AnswersEvent, FailsPut}
 use Rattle.replay_rig.specs.Puts.{PutView, put_of, is_put_out, out_put, with_begun, with_failed, without_put, IsPutOut}
-use Rattle.replay_rig.specs.Puts.{IsJobTaken}
+use Rattle.replay_rig.specs.Puts.{IsJobTaken, lowest_out, lowest_started}
 use Rattle.replay_rig.specs.Crash.{IsPutAs}
 use Rattle.object_uploads.specs.Image.{IsReceiptFor}
 use Rattle.replay_rig.specs.Rig.{RigState, rig_of, script_uuid, expected_of_plain, AreUnderWay, HasBytesOfObject, HasStored}
@@ -65,11 +66,12 @@ use Rattle.replay_rig.specs.Rig.{IsKeptObject, ShowsPlain}
 use Rattle.replay_rig.proofs.PlainLemmas.{GrowsByOne, KeepsRemovals, is_no_removal, event_grows, event_keeps_removals}
 use Rattle.replay_rig.proofs.PlainLemmas.{still_at_once}
 use Rattle.replay_rig.proofs.Says.{says_reply, done_counts}
-use Rattle.replay_rig.proofs.Describing.{put_keeps_volume}
+use Rattle.replay_rig.proofs.Describing.{put_keeps_volume, put_leaves_none}
 use Rattle.replay_rig.proofs.Stepped.{ShowsVolume, volume_shown, step_of_plain, bytes_kept, on_its_way, stored_still}
 use Rattle.replay_rig.proofs.Stepped.{put_objects_still, young_still, KeepsUnderWay, same_under_way, goes_on}
 use Rattle.replay_rig.proofs.WindowLemmas.{open_above, started_is_open, ready_is_open, marked_numbers, without_others}
 use Rattle.replay_rig.proofs.WindowLemmas.{without_own, begun_under_way, failed_under_way, done_under_way, out_if_started}
+use Rattle.replay_rig.proofs.WindowLemmas.{lowest_if_started}
 use Rattle.replay_rig.proofs.WindowLemmas.{all_begun, all_failed, all_without, all_at}
 
 -- ---- an object that is open, and one whose put is out
@@ -106,6 +108,10 @@ pub out_listed : (n : ℕ) (rig : RigState) (plain : PlainState) → ShowsPlain 
 out_listed n rig plain h =
     let window = h.shows.valid.window in
     out_if_started n 0 plain.window.objects plain.window.last rig.puts window.order window.starts h.puts
+
+pub lowest_listed : (rig : RigState) (plain : PlainState) → ShowsPlain rig plain
+    → lowest_out rig.puts ≡ lowest_started plain.window.objects
+lowest_listed rig plain h = lowest_if_started plain.window.objects rig.puts h.shows.valid.window.starts h.puts
 
 pub out_in_list : (n : ℕ) (old now : RigState) → ((plain : PlainState) × ShowsPlain old plain) → old ≡ now
     → ((plain : PlainState) → ShowsPlain now plain → IsTrue (is_started n plain.window.objects))
@@ -176,9 +182,9 @@ puts_go_on : (old : RigState) (volume : SteppedVolume) (objects : Objects) (puts
     → ShowsVolume h.epoch volume.volume (plain_after asked plain)
     → AreUnderWay (plain_after asked plain).window.objects puts → AllByRecursion (IsKnownPut plain old.volume.volume) puts
     → KeepsRemovals plain (plain_after asked plain) → HasStored (plain_after asked plain) objects
-    → HasVolume script_uuid plain.geometry h.epoch objects
+    → HasVolume script_uuid plain.geometry h.epoch objects → HasHolds (expected_of_plain plain) [] objects
     → ShowsPlain (rig_after old volume objects puts) (plain_after asked plain)
-puts_go_on old volume objects puts event reply asked plain h of now are known removals stored described =
+puts_go_on old volume objects puts event reply asked plain h of now are known removals stored described holds =
     let next : PlainState = plain_after asked plain in
     let grows = event_grows plain asked in
     let object_stays = λ (number : ℕ) (bytes : List ℕ) (is : IsObjectOf (expected_of_plain plain) plain number bytes).
@@ -199,6 +205,8 @@ puts_go_on old volume objects puts event reply asked plain h of now are known re
       bytes = bytes_kept old.volume.volume volume.volume puts of.step.bytes (known_waits plain old.volume.volume puts known)
           (on_its_way volume.volume next puts now.shows are) (known_bytes plain old.volume.volume puts known);
       stored = stored;
+      unheld = grows.held ∙ h.unheld;
+      holds = subst (λ g. HasHolds (expected_of script_uuid g) [] objects) (sym grows.geometry) holds;
       removes = still_at_once plain next removals h.removes;
       young = young_still old volume objects puts old.is_stopping plain next grows (omega (arith, of.count))
           (omega (arith, of.step.numbers.commits)) h.young;
@@ -349,6 +357,7 @@ job_begun old volume job plain uploads of h tells now =
     (job_of_rig old plain n job h uploads open_ (of.told all_told) tells.1)
     (known_puts old plain h))
     (event_keeps_removals plain events.TakeJob refl) (stored_marked n true old plain events.TakeJob h window refl) h.described
+    h.holds
 
 pub begun_some : (old : RigState) (volume : SteppedVolume) (job : JobState) (number : ℕ) (list : List PutView)
     → number ≡ job.name.number
@@ -396,7 +405,7 @@ job_failed n old volume job reply plain started of h now =
     (all_failed (IsKnownPut plain old.volume.volume) n old.puts
     (λ put known. record { object = known.object; waits = known.waits; bytes = known.bytes }) (known_puts old plain h))
     (event_keeps_removals plain (events.JobFailed (Some n)) refl)
-    (stored_marked n false old plain (events.JobFailed (Some n)) h window refl) h.described
+    (stored_marked n false old plain (events.JobFailed (Some n)) h window refl) h.described h.holds
 
 pub failed_answers : (n : ℕ) (old : RigState) (volume : SteppedVolume) (job : JobState) (reply : Reply Kept) (list : List PutView)
     → ((plain : PlainState) → ShowsPlain old plain → IsTrue (is_started n plain.window.objects)) → job.name.number ≡ n
@@ -582,6 +591,7 @@ job_done n bytes old volume store job receipt reply plain started is put of h no
     h.shows.valid h.opens object)
     h.stored)
     (put_keeps_volume n bytes old.objects store plain.geometry h.epoch put h.described)
+    (put_leaves_none n bytes old.objects store plain.geometry put h.holds)
 
 -- the plain volume's put is done, and the rig shows it
 done_on : (n : ℕ) (old : RigState) (volume : SteppedVolume) (store : Objects) (job : JobState) (receipt : Kept)

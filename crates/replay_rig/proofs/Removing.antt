@@ -40,7 +40,7 @@ use Rattle.replay_rig.specs.Answers.{SaysReply}
 use Rattle.replay_rig.specs.Steps.{AnswersRemoval}
 use Rattle.replay_rig.specs.Rig.{RigState, rig_of, script_uuid, expected_of_plain, HasBytesOfObject, IsKeptObject, HasStored}
 use Rattle.replay_rig.specs.Rig.{ShowsPlain}
-use Rattle.replay_rig.proofs.Describing.{removed_keeps_volume}
+use Rattle.replay_rig.proofs.Describing.{removed_keeps_volume, removed_leaves_none}
 use Rattle.replay_rig.proofs.Rooms.{no_step_rig}
 use Rattle.replay_rig.proofs.Stepped.{ShowsVolume, volume_shown, step_of_plain, all_puts, bytes_kept, on_its_way}
 
@@ -250,6 +250,8 @@ shows_gone n old middle volume receipt reply store plain h of back between now i
       bytes = bytes_kept middle.volume volume.volume old.puts back.step.bytes waits
           (on_its_way volume.volume (gone n plain) old.puts now.shows h.puts) bytes;
       stored = stored_gone n plain old.objects store removed h.stored;
+      unheld = h.unheld;
+      holds = removed_leaves_none n old.objects store plain.geometry removed h.holds;
       removes = record { none_out = refl; gone = ap (λ numbers. numbers ++ n ∷ []) h.removes.gone };
       young = record {
         entries = omega (arith, h.young.entries);

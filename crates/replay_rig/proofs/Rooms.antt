@@ -67,6 +67,8 @@ untouched_rig old volume lines plain later h of =
       put_objects = h.put_objects;
       bytes = subst (λ v. AllByRecursion (λ put. HasBytesOf v put.number put.bytes) old.puts) (sym of.volume) h.bytes;
       stored = h.stored;
+      unheld = h.unheld;
+      holds = h.holds;
       removes = h.removes;
       young = record {
         entries = omega (arith, h.young.entries, later);
@@ -94,6 +96,8 @@ later_rig old lines plain later h = record {
   put_objects = h.put_objects;
   bytes = h.bytes;
   stored = h.stored;
+  unheld = h.unheld;
+  holds = h.holds;
   removes = h.removes;
   young = record {
     entries = omega (arith, h.young.entries, later);
@@ -125,6 +129,8 @@ no_step_rig old volume plain event reply h of now = record {
       (on_its_way old.volume.volume plain old.puts h.shows h.puts)
       (on_its_way volume.volume plain old.puts now.shows h.puts) h.bytes;
   stored = h.stored;
+  unheld = h.unheld;
+  holds = h.holds;
   removes = h.removes;
   young = record {
     entries = omega (arith, h.young.entries);

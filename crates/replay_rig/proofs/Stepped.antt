@@ -19,6 +19,7 @@ use Rattle.refine_log.specs.Pending.{ShowsPending}
 use Rattle.refine_store.specs.Puts.{IsObjectOf}
 use Rattle.refine_store.proofs.KeepLemmas.{events_keep_object}
 use Rattle.object_recovery.specs.Checkpoints.{expected_of}
+use Rattle.refine_mount.specs.Found.{HasHolds}
 use Rattle.stopped_volume.specs.Super.{HasVolume}
 use Rattle.vol_core.specs.declared.event.Event.{Event}
 use Rattle.vol_core.specs.declared.reply.Reply.{Reply}
@@ -246,6 +247,8 @@ goes_on_with old volume lines event reply asked plain h of now keeps removals la
           (on_its_way old.volume.volume plain old.puts h.shows h.puts)
           (on_its_way volume.volume next old.puts now.shows under_way) h.bytes;
       stored = stored_still plain next old.objects grows removals object_stays keeps.back keeps.forth h.stored;
+      unheld = grows.held ∙ h.unheld;
+      holds = subst (λ g. HasHolds (expected_of script_uuid g) [] old.objects) (sym grows.geometry) h.holds;
       removes = still_at_once plain next removals h.removes;
       young = young;
     }

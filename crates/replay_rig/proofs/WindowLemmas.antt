@@ -9,7 +9,8 @@ use Rattle.std.proofs.lemmas.List.Elements.{All-head, All-tail}
 use Rattle.upload_window.specs.declared.object.OpenObject.{OpenObject}
 use Rattle.upload_window.specs.Window.{Ascends, has_number, is_started, with_started, without}
 use Rattle.upload_window.proofs.Order.{at_most, none_open}
-use Rattle.replay_rig.specs.Puts.{PutView, put_of, is_put_out, out_put, with_begun, with_failed, without_put}
+use Rattle.replay_rig.specs.Puts.{PutView, put_of, is_put_out, out_put, with_begun, with_failed, without_put, lowest_out}
+use Rattle.replay_rig.specs.Puts.{lowest_started}
 use Rattle.replay_rig.specs.Rig.{AreUnderWay, IsFirstUnderWay}
 
 -- ---- their numbers
@@ -377,6 +378,33 @@ out_if_started n low (object ∷ objects) last puts ascends starts are =
     let Keeps : OpenObject → Type 0 = λ (o : OpenObject). IsTrue o.is_started → IsTrue o.was_started in
     out_by n low object objects last puts object.was_started refl ascends (All-head Keeps object objects starts)
     (λ more are_. out_if_started n object.number objects last more ascends.1 (All-tail Keeps object objects starts) are_) are
+
+-- the first that is out is the first that is started
+lowest_by : (object : OpenObject) (objects : List OpenObject) (puts : List PutView) (b : Bool) → object.was_started ≡ b
+    → (IsTrue object.is_started → IsTrue object.was_started)
+    → ((more : List PutView) → AreUnderWay objects more → lowest_out more ≡ lowest_started objects)
+    → IsFirstUnderWay b object puts (AreUnderWay objects) → lowest_out puts ≡ lowest_started (object ∷ objects)
+lowest_by object objects [] true was keeps more are = absurd are
+lowest_by object objects (put ∷ puts) true was keeps more are =
+    let rest : lowest_out puts ≡ lowest_started objects = more puts are.2 in
+    elim object.is_started as (λ b. put.is_out ≡ b
+    → option_map (λ (p : PutView). p.number) (cond put.is_out (Some put) (find (λ (p : PutView). p.is_out) puts))
+    ≡ option_map (λ (o : OpenObject). o.number) (cond b (Some object) (find (λ (o : OpenObject). o.is_started) objects))) [
+      | true ↦ λ out. rw out (ap Some are.0)
+      | false ↦ λ out. rw out rest
+    ] are.1
+lowest_by object objects puts false was keeps more are =
+    let never : object.is_started ≡ false = not_started object.is_started object.was_started was keeps in
+    more puts are ∙ sym (rw never refl)
+
+pub lowest_if_started : (objects : List OpenObject) (puts : List PutView)
+    → All (λ (object : OpenObject). IsTrue object.is_started → IsTrue object.was_started) objects → AreUnderWay objects puts
+    → lowest_out puts ≡ lowest_started objects
+lowest_if_started [] puts starts are = ap lowest_out are
+lowest_if_started (object ∷ objects) puts starts are =
+    let Keeps : OpenObject → Type 0 = λ (o : OpenObject). IsTrue o.is_started → IsTrue o.was_started in
+    lowest_by object objects puts object.was_started refl (All-head Keeps object objects starts)
+    (λ more are_. lowest_if_started objects more (All-tail Keeps object objects starts) are_) are
 
 -- ---- what holds of each put
 

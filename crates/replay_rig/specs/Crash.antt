@@ -1,7 +1,7 @@
 -- For this crate's own clauses: disks before a format and after a stop, and what is mounted on them.
 use Rattle.std.specs.Prelude.{◌≡◌, ℕ, ◌^◌, ◌<◌, ◌≤◌, Some, None, List, [], ◌∷◌, replicate}
 use Rattle.lsvd_base.specs.declared.geometry.Geometry.{Geometry}
-use Rattle.lsvd_names.specs.Names.{numbered_name}
+use Rattle.lsvd_names.specs.Names.{numbered_name, hold_name}
 use Rattle.lsvd_device.specs.Calls.{Cost, fuse_of}
 use Rattle.lsvd_device.specs.Device.{DiskState, IsDisk, HoldsNow}
 use Rattle.lsvd_device.specs.Medium.{MayLeave, durable}
@@ -15,6 +15,7 @@ use Rattle.stopped_volume.specs.Super.{HasVolume}
 use Rattle.plain_disk.specs.declared.log.PlainCommit.{PlainCommit}
 use Rattle.plain_disk.specs.State.{PlainState, created_volume}
 use Rattle.object_recovery.specs.Checkpoints.{expected_of}
+use Rattle.refine_mount.specs.Found.{HasHolds}
 use Rattle.vol_core.specs.Volume.{SteppedVolume}
 use Rattle.vol_core.specs.Creating.{IsCreated}
 use Rattle.vol_core.specs.View.{PendsAs, last_commit, volume_disk}
@@ -67,6 +68,7 @@ pub record IsNewVolume (geometry : Geometry) (volume : SteppedVolume) (objects :
   pub described : HasVolume script_uuid geometry 0 objects
   pub first : IsCheckpointOf (expected_of script_uuid geometry) objects 1 0 (λ k. None)
   pub none_else : (number : ℕ) → (number ≡ 1 → ⊥) → found objects (numbered_name script_uuid number) ≡ None
+  pub holds : HasHolds (expected_of script_uuid geometry) [] objects
 
 -- a store may be mounted: it has a plain volume in an epoch, and no number of it is too great
 pub record MayMountStored (geometry : Geometry) (objects : Objects) : Type 0 where
@@ -91,11 +93,12 @@ pub record MayMountLeft (geometry : Geometry) (objects : Objects) (disk : DiskSt
   pub synced : HoldsNow IsSynced disk.moments
   pub low : (value : ℕ) → IsWhyNotLeft (owner_at epoch) geometry (Some objects) disk (Refused (Worn value)) → ⊥
 
--- the numbered objects past a number were removed, and the others stay
+-- the numbered objects past a number were removed, and the others stay, and so do holds
 pub record RemovesNumbers (number : ℕ) (old new : Objects) : Type 0 where
   pub stay : (n : ℕ) → n ≤ number → found new (numbered_name script_uuid n) ≡ found old (numbered_name script_uuid n)
   pub gone : (n : ℕ) → number < n → n < 2 ^ 64 → found new (numbered_name script_uuid n) ≡ None
   pub none : (n : ℕ) → found old (numbered_name script_uuid n) ≡ None → found new (numbered_name script_uuid n) ≡ None
+  pub holds : (n : ℕ) → found new (hold_name script_uuid n) ≡ found old (hold_name script_uuid n)
 
 -- a volume of a script was mounted in an epoch, on a device that fails no call and has nothing pending, and the objects past the
 -- first missing number were removed

@@ -1,5 +1,7 @@
 -- Contract: what is seen of the objects under way, and what the steps of puts make of them.
 use Rattle.std.specs.Prelude.{◌≡◌, ℕ, ◌==◌, nat_lt, if◌then◌else◌, Bool, true, false, Option, Some, None, List, [], ◌∷◌}
+use Rattle.std.specs.Prelude.{find, option_map}
+use Rattle.upload_window.specs.declared.object.OpenObject.{OpenObject}
 use Rattle.object_uploads.specs.State.{JobState}
 
 -- an object under way: its number, its bytes, and whether its put is out
@@ -25,6 +27,14 @@ put_of number (put ∷ puts) =
 abbrev pub is_put_out : Option PutView → Bool
 is_put_out None = false
 is_put_out (Some put) = put.is_out
+
+-- the lowest number whose put is out: the objects ascend, so it is that of the first one
+abbrev pub lowest_out : List PutView → Option ℕ
+lowest_out puts = option_map (λ put. put.number) (find (λ put. put.is_out) puts)
+
+-- the same of the open objects of a window
+abbrev pub lowest_started : List OpenObject → Option ℕ
+lowest_started objects = option_map (λ object. object.number) (find (λ object. object.is_started) objects)
 
 -- ---- steps
 

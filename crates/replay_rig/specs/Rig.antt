@@ -19,7 +19,7 @@ use Rattle.plain_disk.specs.Stops.{recovered_number}
 use Rattle.plain_disk.specs.Found.{SealsCheckpoints, found_in}
 use Rattle.object_recovery.specs.Checkpoints.{expected_of}
 use Rattle.refine_log.specs.Stops.{IsFoundCommit, HasCommit}
-use Rattle.refine_mount.specs.Found.{HasObjects}
+use Rattle.refine_mount.specs.Found.{HasHolds, HasObjects}
 use Rattle.refine_mount.specs.Mounted.{end_of_object}
 use Rattle.refine_store.specs.Puts.{IsObjectOf}
 use Rattle.vol_core.specs.Volume.{SteppedVolume}
@@ -103,7 +103,8 @@ pub record IsYoung (rig : RigState) (plain : PlainState) : Type 0 where
 
 -- The rig shows a plain volume: its volume does, with the pending writes of the plain cache, and commits in the epoch that the
 -- store has as the newest of the volume; the objects under way are the plain volume's, and the store has those that are
--- acknowledged, but what was removed. The plain volume is followed from its first object on, also over mounts.
+-- acknowledged, but what was removed. The store has no hold. The plain volume is followed from its first object on, also over
+-- mounts.
 pub record ShowsPlain (rig : RigState) (plain : PlainState) : Type 0 where
   pub shows : Shows rig.volume.volume plain
   pub pending : PendsAs rig.volume.volume plain.cache
@@ -119,6 +120,8 @@ pub record ShowsPlain (rig : RigState) (plain : PlainState) : Type 0 where
   pub put_objects : AllByRecursion (HasBytesOfObject plain) rig.puts
   pub bytes : AllByRecursion (λ put. HasBytesOf rig.volume.volume put.number put.bytes) rig.puts
   pub stored : HasStored plain rig.objects
+  pub unheld : plain.held ≡ []
+  pub holds : HasHolds (expected_of_plain plain) [] rig.objects
   pub removes : RemovesAtOnce plain
   pub young : IsYoung rig plain
 

@@ -2,7 +2,7 @@ ghost use Rattle.std.specs.Prelude.{◌≡◌, ◌+◌, ◌≤◌, ◌<◌, [], 
 ghost use Rattle.std.specs.Prelude.{OnOk, MatchOption, Some};
 ghost use Rattle.std.specs.List.{slice_get, insert, remove};
 ghost use Rattle.replay_rig.specs.Puts.{put_of, is_put_out, with_begun, with_failed, without_put, IsPutOut};
-ghost use Rattle.replay_rig.specs.Puts.{IsJobTaken};
+ghost use Rattle.replay_rig.specs.Puts.{IsJobTaken, lowest_out};
 ghost use Rattle.replay_rig.specs.Places.{place_of_put, stands_at_place};
 
 use lsvd_base::ObjectBytes;
@@ -210,6 +210,14 @@ impl Puts {
             Some(put) => put.number() == number && put.is_out(),
             None => false,
         }
+    }
+
+    /// The lowest number whose put is out, if one is.
+    pub(crate) fn lowest_out(&self) -> Option<u64>
+        ensures { result ≡ lowest_out self.now.list }
+    {
+        let put = self.list.iter().find(|put| put.is_out())?;
+        Some(put.number())
     }
 
     /// A further owner of the bytes of the put of this number, which is out (a condition).

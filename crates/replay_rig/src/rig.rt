@@ -11,7 +11,7 @@ ghost use Rattle.transcript.specs.Letters.{under_way};
 ghost use Rattle.replay_rig.specs.Steps.{AnswersEvent, is_counted, AnswersAsked, AnswersRead, AnswersRemoval};
 ghost use Rattle.replay_rig.specs.Steps.{FailsPut};
 ghost use Rattle.read_plan.specs.Plan.{GivesNoOther};
-ghost use Rattle.replay_rig.specs.Puts.{is_put_out, put_of};
+ghost use Rattle.replay_rig.specs.Puts.{is_put_out, put_of, lowest_started};
 ghost use Rattle.gc_copier.specs.Copying.{IsCopyOf};
 ghost use Rattle.replay_rig.specs.Crash.{IsPutAs};
 ghost use Rattle.replay_rig.specs.Steps.{IsUntouched, StopsAfter, MountsKeptRig, MountsLostRig};
@@ -223,6 +223,14 @@ impl Rig {
             → result ≡ is_started number plain.window.objects }
     {
         self.puts.is_out(number)
+    }
+
+    /// The lowest number whose put is out, if one is.
+    pub fn lowest_out(&self) -> Option<u64>
+        ensures { (plain : PlainState) → ShowsPlain self.now plain
+            → result ≡ lowest_started plain.window.objects }
+    {
+        self.puts.lowest_out()
     }
 
     /// Makes the put of this number, which is out (a condition).

@@ -3,6 +3,7 @@ pub mod Opening
 pub mod Objects
 pub mod Super
 pub mod Device
+pub mod Holds
 pub mod Needed
 pub mod Store
 pub mod Laws

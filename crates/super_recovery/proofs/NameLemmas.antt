@@ -8,9 +8,9 @@ use Rattle.std.proofs.lemmas.List.Elements.{Contains-push_cases}
 use Rattle.lsvd_names.specs.declared.name.NameKind.{NameKind}
 use Rattle.lsvd_names.specs.declared.name.NameKind.TheVariants as kinds
 use Rattle.lsvd_names.specs.declared.name.ObjName.{ObjName}
-use Rattle.lsvd_names.specs.Names.{hold_name}
+use Rattle.lsvd_names.specs.Names.{if_hold, hold_number, hold_numbers, hold_name}
 use Rattle.lsvd_objstore.specs.Objects.{AreNamesOf}
-use Rattle.super_recovery.specs.Holds.{if_hold, hold_number, hold_numbers, AreHoldsAmong}
+use Rattle.super_recovery.specs.Holds.{AreHoldsAmong}
 
 -- a name is its uuid, its kind and its number
 pub named_so : (name own : ObjName) → name.uuid ≡ own.uuid → name.kind ≡ own.kind → name.number ≡ own.number → name ≡ own

@@ -2,8 +2,6 @@
 use Rattle.std.specs.Prelude.{◌≡◌, ℕ, ◌^◌, ◌<◌, ◌↔◌, Option, Some, None, IsSome, List, length, take, get_or}
 use Rattle.std.specs.List.{All, Contains, filter_map}
 use Rattle.std.specs.List.Sorted.{IsStrictlyIncreasing}
-use Rattle.lsvd_names.specs.declared.name.NameKind.{NameKind}
-use Rattle.lsvd_names.specs.declared.name.NameKind.TheVariants.{Super, Epoch, Object, Hold}
 use Rattle.lsvd_names.specs.declared.name.ObjName.{ObjName}
 use Rattle.lsvd_names.specs.Names.{hold_name}
 use Rattle.lsvd_objstore.specs.Objects.{Objects, found}
@@ -14,19 +12,6 @@ use Rattle.super_recovery.specs.declared.error.SuperError.{SuperError}
 use Rattle.super_recovery.specs.declared.error.SuperError.TheVariants as errors
 
 -- ---- among names
-
--- the number of a name of a hold, and those of all such names, in their order (for this crate's own clauses)
-abbrev pub if_hold : NameKind → ℕ → Option ℕ
-if_hold Super number = None
-if_hold Epoch number = None
-if_hold Object number = None
-if_hold Hold number = Some number
-
-abbrev pub hold_number : ObjName → Option ℕ
-hold_number name = if_hold name.kind name.number
-
-abbrev pub hold_numbers : List ObjName → List ℕ
-hold_numbers names = filter_map hold_number names
 
 -- numbers are those of the holds among the names of a volume, ascending
 pub record AreHoldsAmong (uuid : List ℕ) (names : List ObjName) (numbers : List ℕ) : Type 0 where

@@ -2,6 +2,7 @@ ghost use Rattle.std.specs.Prelude.{◌≡◌, ◌↔◌, ℕ, IsTrue, IfOk, IfE
 ghost use Rattle.std.specs.List.{Contains};
 ghost use Rattle.std.specs.List.Sorted.{IsStrictlyIncreasing};
 ghost use Rattle.lsvd_fault.specs.Faults.{Counts};
+ghost use Rattle.lsvd_names.specs.Names.{hold_number, hold_numbers};
 ghost use Rattle.lsvd_objstore.specs.Objects.{AreNamesOf, Lists};
 ghost use Rattle.lsvd_objstore.specs.Store.{StoreState, ReceiptState, OnlyCounts, has_failed};
 ghost use Rattle.super_format.specs.declared.hold.Hold.{Hold as HoldValue};
@@ -9,7 +10,7 @@ ghost use Rattle.super_format.specs.Hold.{IsHold};
 ghost use Rattle.stopped_volume.specs.Store.{TellsBytes};
 ghost use Rattle.super_recovery.specs.Faults.{ends_by_fault};
 ghost use Rattle.super_recovery.specs.Fronts.{IsFrontOf};
-ghost use Rattle.super_recovery.specs.Holds.{hold_number, hold_numbers, AreHoldsAmong, AreHolds, HasHold};
+ghost use Rattle.super_recovery.specs.Holds.{AreHoldsAmong, AreHolds, HasHold};
 ghost use Rattle.super_recovery.specs.Holds.{IsFirstBadIn, IsWhyNoHolds};
 
 use crate::error::SuperError;

@@ -70,6 +70,7 @@ still_plain left pins plain is = record {
   opened = is.opened;
   begun = is.begun;
   checkpoint = is.checkpoint;
+  held = is.held;
   log = is.log;
   size = is.size;
 }

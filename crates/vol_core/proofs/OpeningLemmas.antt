@@ -57,9 +57,11 @@ module _ (plain : PlainState) (number : ℕ) (h : MayFold plain number) where
     unmapped = is.unmapped;
     pins = is.pins;
     copied = is.copied;
+    held = is.held;
     payload = λ other. payloads_from_first other (row_of other queue.maps.objects.rows) (is.payload other);
     free = is.free;
     gone = is.gone;
+    kept = is.kept;
     reached = is.reached;
   }
 

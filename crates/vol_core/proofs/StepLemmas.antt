@@ -50,6 +50,7 @@ passing_keeps left plain valid = record {
   opened = valid.opened;
   begun = valid.begun;
   checkpoint = valid.checkpoint;
+  held = valid.held;
   log = valid.log;
   size = valid.size;
 }

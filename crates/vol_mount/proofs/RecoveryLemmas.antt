@@ -1,5 +1,5 @@
 -- For `recover_list`: the list of a volume, and why it is not recovered.
-use Rattle.std.proofs.Common.{◌≡◌, ℕ, ◌<◌, ◌^◌, List, false, refl, sym, ◌∙◌, ap, subst, arith}
+use Rattle.std.proofs.Common.{◌≡◌, ℕ, ◌<◌, ◌^◌, inl, inr, List, false, refl, sym, ◌∙◌, ap, subst, arith}
 use Rattle.std.specs.Prelude.{Option, Some, None, IfSome, IsTrue}
 use Rattle.std.proofs.lemmas.Bool.Decides.{nat_tests}
 use Rattle.lsvd_base.specs.declared.geometry.Geometry.{Geometry}
@@ -7,15 +7,16 @@ use Rattle.lsvd_base.specs.Limits.{is_within_limits}
 use Rattle.lsvd_fault.specs.Faults.{Counts}
 use Rattle.lsvd_objstore.specs.Objects.{Objects}
 use Rattle.obj_log.specs.State.{ObjLogState}
+use Rattle.stopped_volume.specs.Holds.{HasHeldCheckpoints}
 use Rattle.plain_disk.specs.State.{PlainState, stream_in}
 use Rattle.object_recovery.specs.declared.error.RecoverError.{RecoverError}
 use Rattle.object_recovery.specs.declared.error.RecoverError.TheVariants as recovery
 use Rattle.object_recovery.specs.Faults.{is_store_fault, IsNoAnswer}
 use Rattle.object_recovery.specs.Checkpoints.{expected_of, IsNewestWithEnd, IsNoCheckpoint}
 use Rattle.object_recovery.specs.Recovery.{HasDataUpTo, IsListUpTo, HasRecovered, IsLastLanded}
-use Rattle.object_recovery.specs.Recovery.{IsRefusal, IsRecoveryRefused}
-use Rattle.object_recovery.specs.Recovering.{Recovers}
-use Rattle.object_recovery.specs.Table.{HasTableFrom, KnowsObjects}
+use Rattle.object_recovery.specs.Recovery.{IsRefusal}
+use Rattle.object_recovery.specs.Recovering.{Recovers, IsRefusedThere}
+use Rattle.object_recovery.specs.Table.{HasTableFrom, KnowsObjects, KnowsHolds}
 use Rattle.object_recovery.proofs.RecoverLemmas.{base_is}
 use Rattle.refine_mount.specs.Found.{HasObjects}
 use Rattle.refine_mount.specs.Mounted.{end_of_object, sizes_with, mounted_without}
@@ -51,13 +52,14 @@ same_fault recovery.StoreFault = refl
 same_fault recovery.OutOfMemory = refl
 
 none_is : (uuid : List ℕ) (geometry : Geometry) (objects : Option Objects)
-    → IfSome objects (λ o. IsRecoveryRefused (expected_of uuid geometry) o recovery.NoCheckpoint)
+    → IfSome objects (λ o. IsRefusedThere (expected_of uuid geometry) o recovery.NoCheckpoint)
     → IfSome objects (λ o. (number : ℕ) → 0 < number → IsNoCheckpoint (expected_of uuid geometry) o number)
 none_is uuid geometry None refused = tt
-none_is uuid geometry (Some objects) refused = λ number more. refused.why number
+none_is uuid geometry (Some objects) (inl refused) = λ number more. refused.why number
+none_is uuid geometry (Some objects) (inr held) = absurd held.refuses.why
 
 pub why_of : (error : RecoverError) (uuid : List ℕ) (geometry : Geometry) (objects : Option Objects)
-    → IfSome objects (λ o. IsRecoveryRefused (expected_of uuid geometry) o error)
+    → IfSome objects (λ o. IsRefusedThere (expected_of uuid geometry) o error)
     → IsWhyNotStored uuid geometry objects (of_recovery error)
 why_of recovery.NoCheckpoint uuid geometry objects refused = none_is uuid geometry objects refused
 why_of (recovery.BadObject number reason) uuid geometry objects refused = refused
@@ -75,16 +77,21 @@ data_of uuid geometry plain number objects sizes has =
     has.stored
 
 refuses_none : (error : RecoverError) (uuid : List ℕ) (geometry : Geometry) (objects : Option Objects) → IsRefusal error
-    → IfSome objects (λ o. IsRecoveryRefused (expected_of uuid geometry) o error) → (plain : PlainState) (number : ℕ)
+    → IfSome objects (λ o. IsRefusedThere (expected_of uuid geometry) o error) → (plain : PlainState) (number : ℕ)
     → IsStored uuid geometry plain number objects → ⊥
 refuses_none error uuid geometry None refusal refused plain number stored = absurd stored.objects_are
-refuses_none error uuid geometry (Some objects) refusal refused plain number stored =
+refuses_none error uuid geometry (Some objects) refusal (inl refused) plain number stored =
     let has : HasObjects uuid plain number objects = stored.objects_are in
     refused.no_stream has.uuid_at (stream_in plain) plain.opening number
     (data_of uuid geometry plain number objects stored.sizes has) refusal
+refuses_none error uuid geometry (Some objects) refusal (inr held) plain number stored =
+    let has : HasObjects uuid plain number objects = stored.objects_are in
+    held.refuses.not_there
+    ((subst (λ g. HasHeldCheckpoints (expected_of uuid g) objects) (sym stored.sizes) has.holds.checkpoints) held.number
+    held.is_held)
 
 pub no_refusal_of : (error : RecoverError) (uuid : List ℕ) (geometry : Geometry) (objects : Option Objects)
-    → IfSome objects (λ o. IsRecoveryRefused (expected_of uuid geometry) o error)
+    → IfSome objects (λ o. IsRefusedThere (expected_of uuid geometry) o error)
     → RefusesNoneStored uuid geometry objects (of_recovery error)
 no_refusal_of recovery.NoCheckpoint uuid geometry objects refused = λ plain number stored.
     absurd (refuses_none recovery.NoCheckpoint uuid geometry objects tt refused plain number stored)
@@ -147,9 +154,10 @@ only_none_refuses uuid geometry (Some objects) checkpoint limits none newest = �
 
 pub recovered_from : (uuid : List ℕ) (geometry : Geometry) (objects : Option Objects) (log : ObjLogState) (checkpoint : ℕ)
     → IfSome objects (λ o. Recovers (expected_of uuid geometry) checkpoint o log)
+    → IfSome objects (λ o. KnowsHolds (expected_of uuid geometry) o log.uploads.queue)
     → IfSome objects (λ o. IsRecoveredFrom uuid geometry o log checkpoint)
-recovered_from uuid geometry None log checkpoint told = tt
-recovered_from uuid geometry (Some objects) log checkpoint told = record {
+recovered_from uuid geometry None log checkpoint told holds = tt
+recovered_from uuid geometry (Some objects) log checkpoint told holds = record {
   checkpoint_end = told.checkpoint.0;
   newest = told.checkpoint.1;
   landed = told.landed;
@@ -157,6 +165,7 @@ recovered_from uuid geometry (Some objects) log checkpoint told = record {
   good = told.good;
   named = told.named;
   knows = told.knows;
+  holds = holds;
   recovered = told.recovered;
 }
 
@@ -172,7 +181,8 @@ pub good_objects : (uuid : List ℕ) (geometry : Geometry) (objects : Option Obj
     → IsRecovered uuid geometry log checkpoint → IfSome objects (λ o. IsRecoveredFrom uuid geometry o log checkpoint)
     → HasGoodObjects uuid geometry objects
 good_objects uuid geometry None log checkpoint is from = tt
-good_objects uuid geometry (Some objects) log checkpoint is from = (checkpoint, is.numbered, from.good, from.named)
+good_objects uuid geometry (Some objects) log checkpoint is from =
+    (checkpoint, is.numbered, from.good, from.named, from.holds.checkpoints)
 
 pub good_up_to : (uuid : List ℕ) (geometry : Geometry) (objects : Option Objects) (log : ObjLogState) (checkpoint : ℕ)
     → log.uploads.window.last < max_number → IsRecovered uuid geometry log checkpoint
@@ -185,6 +195,7 @@ good_up_to uuid geometry (Some objects) log checkpoint low is from = record {
   from = is.from;
   good = from.good;
   named = from.named;
+  holds = from.holds.checkpoints;
   landed = from.landed;
   last = (from.recovered (omega (arith, low))).last;
 }
@@ -252,7 +263,8 @@ list_of_told uuid geometry plain number objects log checkpoint limits is from st
       table =
           recovered_shows_table uuid geometry.log plain number objects log stored.valid has up_to recovered.number_is is.order
           (subst (λ n. HasTableFrom n log.uploads.queue) (sym first) is.table)
-          (subst (λ g. KnowsObjects (expected_of uuid g) objects plain.checkpoint.number log.uploads.queue) sizes knows);
+          (subst (λ g. KnowsObjects (expected_of uuid g) objects plain.checkpoint.number log.uploads.queue) sizes knows)
+          (subst (λ g. KnowsHolds (expected_of uuid g) objects log.uploads.queue) sizes from.holds);
       end_is = recovered.end_is;
       number_is = recovered.number_is;
     }

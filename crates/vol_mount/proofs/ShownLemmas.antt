@@ -31,9 +31,11 @@ shown data_at objects log plain valid no_plan shows table of_log logged = record
     unmapped = table.unmapped;
     pins = table.pins;
     copied = table.copied;
+    held = table.held;
     payload = table.payload;
     free = table.free;
     gone = table.gone;
+    kept = table.kept;
     reached = table.reached;
   };
   plan = no_plan;

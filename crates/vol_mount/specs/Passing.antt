@@ -5,6 +5,7 @@ use Rattle.lsvd_base.specs.declared.geometry.Geometry.{Geometry}
 use Rattle.lsvd_device.specs.Device.{DiskState}
 use Rattle.lsvd_objstore.specs.Objects.{Objects}
 use Rattle.stopped_volume.specs.Device.{CacheOwner}
+use Rattle.stopped_volume.specs.Holds.{HasHeldCheckpoints}
 use Rattle.object_recovery.specs.Checkpoints.{expected_of}
 use Rattle.object_recovery.specs.Judging.{HaveLanded}
 use Rattle.object_recovery.specs.Recovery.{IsLastLanded, AreAllGood}
@@ -13,14 +14,15 @@ use Rattle.vol_mount.specs.Refusals.{HasExtent, AreAllNamed, ReadsWhole, IsOwnCo
 
 -- ---- the store
 
--- The objects of a volume in a store are good from the newest checkpoint on, those that it names are there, and the one of this
--- number is that before the first missing one.
+-- The objects of a volume in a store are good from the newest checkpoint on, those that it names and the checkpoint of each hold
+-- are there, and the one of this number is that before the first missing one.
 pub record AreGoodUpTo (uuid : List ℕ) (geometry : Geometry) (number : ℕ) (objects : Objects) : Type 0 where
   pub base : ℕ
   pub numbered : 0 < base
   pub from : base ≤ number
   pub good : AreAllGood (expected_of uuid geometry) objects base
   pub named : AreAllNamed (expected_of uuid geometry) objects base
+  pub holds : HasHeldCheckpoints (expected_of uuid geometry) objects
   pub landed : HaveLanded objects (expected_of uuid geometry) base number
   pub last : IsLastLanded (expected_of uuid geometry) objects number
 

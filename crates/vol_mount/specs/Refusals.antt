@@ -21,6 +21,7 @@ use Rattle.cache_log.specs.declared.error.LogReadError.{LogReadError}
 use Rattle.cache_log.specs.declared.error.LogReadError.TheVariants as read_errors
 use Rattle.object_format.specs.declared.expected.Expected.{Expected}
 use Rattle.object_stream.specs.Stream.{Stream, Owners, end_at}
+use Rattle.stopped_volume.specs.Holds.{HasHeldCheckpoints}
 use Rattle.stopped_volume.specs.Objects.{landed_in}
 use Rattle.stopped_volume.specs.Opening.{IsCheckpointOf}
 use Rattle.stopped_volume.specs.Device.{CacheOwner, owner_of}
@@ -31,7 +32,8 @@ use Rattle.super_recovery.specs.declared.error.SuperError.TheVariants as supers
 use Rattle.object_recovery.specs.declared.error.RecoverError.{RecoverError}
 use Rattle.object_recovery.specs.declared.error.RecoverError.TheVariants as recovery
 use Rattle.object_recovery.specs.Checkpoints.{expected_of, IsNoCheckpoint}
-use Rattle.object_recovery.specs.Recovery.{HasDataUpTo, IsPastOf, IsRecoveryRefused, AreAllGood}
+use Rattle.object_recovery.specs.Recovery.{HasDataUpTo, IsPastOf, AreAllGood}
+use Rattle.object_recovery.specs.Recovering.{IsRefusedThere}
 use Rattle.object_recovery.specs.Table.{AreNamedThere}
 use Rattle.vol_mount.specs.declared.error.MountError.{MountError}
 use Rattle.vol_mount.specs.declared.error.MountError.TheVariants.{Refused, StoreFault, DeviceFault, OutOfMemory}
@@ -73,11 +75,12 @@ AreAllNamed volume objects base =
     → AreNamedThere volume objects checkpoint.rows
 
 -- The objects of a store are good: the store has a whole checkpoint of the volume, and the objects that the newest one names;
--- each object past that is of the grammar and, up to the first missing number, goes on where the one before it ends.
+-- each object past that is of the grammar and, up to the first missing number, goes on where the one before it ends. The
+-- checkpoint of each hold is there.
 abbrev pub HasGoodObjects : (uuid : List ℕ) → Geometry → Option Objects → Type 0
 HasGoodObjects uuid geometry objects =
     IfSome objects (λ objects. (base : ℕ) × (0 < base) × AreAllGood (expected_of uuid geometry) objects base
-    × AreAllNamed (expected_of uuid geometry) objects base)
+    × AreAllNamed (expected_of uuid geometry) objects base × HasHeldCheckpoints (expected_of uuid geometry) objects)
 
 -- ---- the device
 
@@ -136,9 +139,9 @@ abbrev pub IsWhyNotStored : (uuid : List ℕ) → Geometry → Option Objects �
 IsWhyNotStored uuid geometry objects (Refused NoCheckpoint) =
     IfSome objects (λ objects. (number : ℕ) → 0 < number → IsNoCheckpoint (expected_of uuid geometry) objects number)
 IsWhyNotStored uuid geometry objects (Refused (BadObject number reason)) =
-    IfSome objects (λ objects. IsRecoveryRefused (expected_of uuid geometry) objects (recovery.BadObject number reason))
+    IfSome objects (λ objects. IsRefusedThere (expected_of uuid geometry) objects (recovery.BadObject number reason))
 IsWhyNotStored uuid geometry objects (Refused (MissingObject number)) =
-    IfSome objects (λ objects. IsRecoveryRefused (expected_of uuid geometry) objects (recovery.MissingObject number))
+    IfSome objects (λ objects. IsRefusedThere (expected_of uuid geometry) objects (recovery.MissingObject number))
 IsWhyNotStored uuid geometry objects StoreFault = Unit {0}
 IsWhyNotStored uuid geometry objects DeviceFault = Unit {0}
 IsWhyNotStored uuid geometry objects OutOfMemory = Unit {0}

@@ -25,7 +25,7 @@ use Rattle.object_recovery.specs.Checkpoints.{expected_of, IsNewestWithEnd}
 use Rattle.object_recovery.specs.Places.{HasPlacesInside}
 use Rattle.object_recovery.specs.Judging.{HaveLanded}
 use Rattle.object_recovery.specs.Recovery.{IsListUpTo, IsNoLonger, IsRecoveredOf, AreAllGood}
-use Rattle.object_recovery.specs.Table.{HasTableFrom, KnowsObjects}
+use Rattle.object_recovery.specs.Table.{HasTableFrom, KnowsObjects, KnowsHolds}
 use Rattle.refine_mount.specs.Mounted.{data_in, AddsEntries}
 use Rattle.refusals.specs.declared.refusal.Refusal.{Refusal}
 use Rattle.refusals.specs.declared.refusal.Refusal.TheVariants.{WrongVolume, StaleCache, BadRecord}
@@ -80,6 +80,7 @@ pub record IsRecoveredFrom (uuid : List ℕ) (geometry : Geometry) (objects : Ob
   pub good : AreAllGood (expected_of uuid geometry) objects checkpoint
   pub named : AreAllNamed (expected_of uuid geometry) objects checkpoint
   pub knows : KnowsObjects (expected_of uuid geometry) objects checkpoint log.uploads.queue
+  pub holds : KnowsHolds (expected_of uuid geometry) objects log.uploads.queue
   pub recovered : log.uploads.window.last + 1 < 2 ^ 64 - 1 → IsRecoveredOf (expected_of uuid geometry) objects log
 
 -- The list for a mount without the cache was recovered, from a checkpoint on; where bytes are told, the store passes the tests of

@@ -77,6 +77,7 @@ module _ (uuid : List ℕ) (epoch next : ℕ) (plain : PlainState) (landed : Num
         described = described;
         blank = blank;
         seals = seals;
+        holds = has_it.holds;
         may = again.may;
         there = λ other some most there_too.
             (let low : other ≤ number = omega (arith, most, same) in
@@ -131,7 +132,7 @@ may_remove_keeps : (uuid : List ℕ) (epoch : ℕ) (plain : PlainState) (landed 
 may_remove_keeps uuid epoch plain landed old new valid has (inl same) =
     subst (HasVolumeUpTo uuid epoch plain landed) (sym same) has
 may_remove_keeps uuid epoch plain landed old new valid has (inr (last, is, removes)) =
-    removal_keeps_up_to uuid old new epoch plain landed
+    removal_keeps_up_to uuid old new epoch plain landed valid
     (subst (λ n. Removes (IsPastOf uuid n) old new) (last_found uuid epoch plain landed last old valid has (is tt)) removes) has
 
 -- ---- a mount with the cache
@@ -240,8 +241,8 @@ stopped_without_cache uuid log epoch plain landed old new is_uuid may (inr (last
     subst (λ n. BeginsEpoch uuid n (epoch + 1) old new)
     (last_found uuid epoch plain landed last old may.valid may.volume (is tt)) begins in
     let (middle, all, next) = begun in
-    let had = removal_keeps_up_to uuid old middle epoch plain landed all.removes may.volume in
-    let has = next_is_up_to uuid epoch middle new next plain landed had in
+    let had = removal_keeps_up_to uuid old middle epoch plain landed may.valid all.removes may.volume in
+    let has = next_is_up_to uuid epoch middle new next plain landed may.valid had in
     let finds = finds_of uuid (epoch + 1) plain landed new may.valid has in
     let found = plain.cache.log.last in
     let made : PlainState = mounted_on log landed plain in

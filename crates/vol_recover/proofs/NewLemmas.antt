@@ -1,7 +1,7 @@
 -- A volume that was created stands in its store, with no entries.
-use Rattle.std.proofs.Common.{◌≡◌, ℕ, zero, suc, ◌<◌, ◌≤◌, true, false, ◌&&◌, is_some, List, refl, sym, ◌∙◌, ap, subst, inl}
+use Rattle.std.proofs.Common.{◌≡◌, ℕ, zero, suc, ◌<◌, ◌≤◌, true, false, ◌&&◌, is_some, List, [], refl, sym, ◌∙◌, ap, subst, inl}
 use Rattle.std.proofs.Common.{inr, arith}
-use Rattle.std.specs.Prelude.{◌≢◌, Option, Some, None, IfSome, IsTrue}
+use Rattle.std.specs.Prelude.{◌≢◌, Option, Some, None, IsSome, IfSome, IsTrue}
 use Rattle.std.proofs.lemmas.Bool.{cases_lt}
 use Rattle.std.proofs.lemmas.List.Elements.{All-nil}
 use Rattle.lsvd_base.specs.declared.geometry.Geometry.{Geometry}
@@ -14,6 +14,7 @@ use Rattle.object_format.specs.declared.expected.Expected.{Expected}
 use Rattle.object_stream.specs.Landed.{Numbers}
 use Rattle.object_stream.specs.Replay.{object_name}
 use Rattle.object_uploads.specs.State.{UploadsState}
+use Rattle.stopped_volume.specs.Holds.{IsHeld}
 use Rattle.stopped_volume.specs.Objects.{landed_in}
 use Rattle.stopped_volume.specs.Opening.{IsCheckpointOf}
 use Rattle.stopped_volume.specs.Super.{HasVolume}
@@ -24,7 +25,7 @@ use Rattle.plain_disk.proofs.EventLemmas.{created_is}
 use Rattle.plain_disk.proofs.OpeningLemmas.{created_opens}
 use Rattle.plain_disk.proofs.MarkedLemmas.{created_seals}
 use Rattle.object_recovery.specs.Checkpoints.{expected_of}
-use Rattle.refine_mount.specs.Found.{HasObjects}
+use Rattle.refine_mount.specs.Found.{HasHolds, HasObjects}
 use Rattle.refine_store.specs.Puts.{IsObjectOf}
 use Rattle.refine_store.specs.Stored.{StoreStands, HasVolumeUpTo}
 use Rattle.refine_store.proofs.StandLemmas.{mounted_stands}
@@ -57,7 +58,7 @@ other_epoch uuid number past same = let number_is : number ≡ 0 = ap (λ (n : O
 hold_is_no_first : (uuid : List ℕ) (number : ℕ) → hold_name uuid number ≡ numbered_name uuid 1 → ⊥
 hold_is_no_first uuid number same = let kind = ap (λ (n : ObjName). n.kind) same in cc
 
-hold_is_no_epoch : (uuid : List ℕ) (number epoch : ℕ) → hold_name uuid number ≡ epoch_name uuid epoch → ⊥
+pub hold_is_no_epoch : (uuid : List ℕ) (number epoch : ℕ) → hold_name uuid number ≡ epoch_name uuid epoch → ⊥
 hold_is_no_epoch uuid number epoch same = let kind = ap (λ (n : ObjName). n.kind) same in cc
 
 hold_is_no_super : (uuid : List ℕ) (number : ℕ) → hold_name uuid number ≡ super_name uuid → ⊥
@@ -134,15 +135,27 @@ module _ (uuid : List ℕ) (geometry : Geometry) (old : Objects) (new_to : IsNew
       is_epoch = puts_epoch.has.is_epoch;
     }
 
+    lacks_hold : (number : ℕ) → found new (hold_name uuid number) ≡ None
+    lacks_hold number =
+        still_lacks (hold_name uuid number) refl (hold_is_no_first uuid number) (hold_is_no_epoch uuid number 0)
+        (hold_is_no_super uuid number)
+
+    none_held : (number : ℕ) → IsHeld volume new number → ⊥
+    none_held number is = let absent = subst IsSome (lacks_hold number) is.present in cc
+
+    has_no_holds : HasHolds volume [] new
+    has_no_holds = record {
+      checkpoints = λ number is. absurd (none_held number is);
+      same = λ number. (λ (is : false ≡ true). absurd cc, λ kept. absurd (none_held kept.0 kept.1));
+    }
+
     has_volume : HasVolume uuid geometry 0 new
     has_volume =
         volume_is_created (super_of uuid geometry) geometry new refl refl puts_super.says has_epoch
         (λ number past.
         still_lacks (epoch_name uuid number) refl (first_is_no_epoch uuid number) (other_epoch uuid number past)
         (super_is_no_epoch uuid number))
-        (λ number.
-        still_lacks (hold_name uuid number) refl (hold_is_no_first uuid number) (hold_is_no_epoch uuid number 0)
-        (hold_is_no_super uuid number))
+        lacks_hold
 
     lacks_object : (number : ℕ) → (number ≡ 1 → ⊥) → found new (numbered_name uuid number) ≡ None
     lacks_object number apart =
@@ -212,6 +225,7 @@ module _ (uuid : List ℕ) (geometry : Geometry) (old : Objects) (new_to : IsNew
       described = has_volume;
       blank = created_opens geometry;
       seals = created_seals geometry;
+      holds = has_no_holds;
       may = may_land;
       there = λ number some most there. there_is_first number some most;
       absent = λ number some most none.
@@ -255,6 +269,7 @@ module _ (uuid : List ℕ) (geometry : Geometry) (old : Objects) (new_to : IsNew
           gone = refl;
           present = there.present;
           payloads = λ other payload low has. there.payloads other payload low has ∙ same_payload other low;
+          holds = there.holds;
           stored = record {
             own = refl;
             valid = valid.stream;

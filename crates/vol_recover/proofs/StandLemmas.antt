@@ -1,5 +1,5 @@
 -- A volume that was created or mounted stands with its store.
-use Rattle.std.proofs.Common.{◌≡◌, ℕ, ◌+◌, ◌^◌, ◌<◌, ◌≤◌, ◌⊎◌, Option, Some, None, List, inl, inr, refl, sym, ◌∙◌}
+use Rattle.std.proofs.Common.{◌≡◌, ℕ, ◌+◌, ◌^◌, ◌<◌, ◌≤◌, ◌⊎◌, eqb, Option, Some, None, List, inl, inr, refl, sym, ◌∙◌}
 use Rattle.std.proofs.Common.{subst, arith}
 use Rattle.lsvd_base.specs.declared.geometry.Geometry.{Geometry}
 use Rattle.lsvd_names.specs.Spelling.{IsUuid}
@@ -19,12 +19,17 @@ use Rattle.super_recovery.proofs.LawLemmas.{says_the_same, next_epoch_is_begun}
 use Rattle.plain_disk.specs.State.{PlainState, created_volume}
 use Rattle.plain_disk.specs.Stops.{recovered_number, mounted_from, mounted_on}
 use Rattle.plain_disk.specs.Found.{found_in}
+use Rattle.plain_disk.specs.Removals.{absent_of}
+use Rattle.plain_disk.specs.Valid.{IsKeptByHold, IsPlainVolume}
+use Rattle.plain_disk.proofs.CheckpointLemmas.{any_tells, same_number}
+use Rattle.plain_disk.proofs.MountLemmas.{held_is_found}
 use Rattle.object_recovery.specs.Checkpoints.{expected_of}
 use Rattle.object_recovery.specs.Removal.{Removes}
 use Rattle.object_recovery.specs.Recovery.{IsPastOf, RemovesAllPast}
 use Rattle.refine_log.specs.Fuses.{fuse_in}
 use Rattle.refine_store.specs.Puts.{MayBeLeft}
 use Rattle.refine_store.specs.Stored.{StoreStands, HasVolumeUpTo, HasNonePast}
+use Rattle.refine_store.proofs.HoldLemmas.{KeepsHolds, holds_stay}
 use Rattle.refine_store.proofs.StandLemmas.{mounted_stands, stands_with_any_cache}
 use Rattle.vol_core.specs.Shows.{Shows}
 use Rattle.vol_core.specs.Step.{passing}
@@ -33,7 +38,7 @@ use Rattle.vol_mount.specs.Epochs.{BeginsEpoch}
 use Rattle.vol_recover.specs.Creating.{HasNewVolume}
 use Rattle.vol_recover.specs.Standing.{IsMadeWithStore, CreatedStands, MountedWithStands, MountedWithoutStands}
 use Rattle.vol_recover.proofs.MadeLemmas.{with_cache_shows, without_shows}
-use Rattle.vol_recover.proofs.NewLemmas.{epoch_is_no_object}
+use Rattle.vol_recover.proofs.NewLemmas.{epoch_is_no_object, hold_is_no_epoch}
 
 -- ---- a store that keeps the objects up to a number
 
@@ -46,13 +51,15 @@ still_none : (old new : Option (List ℕ)) → (new ≡ old) ⊎ (new ≡ None) 
 still_none old new (inl same) none = same ∙ none
 still_none old new (inr gone) none = gone
 
--- the objects up to a number stay, and each past it stays or goes
+-- the objects up to a number and the holds stay, and each object past it stays or goes
 pub record KeepsUpTo (uuid : List ℕ) (number : ℕ) (old new : Objects) : Type 0 where
   pub same : (other : ℕ) → other ≤ number → found new (numbered_name uuid other) ≡ found old (numbered_name uuid other)
   pub later : (other : ℕ) → (found new (numbered_name uuid other) ≡ found old (numbered_name uuid other))
       ⊎ (found new (numbered_name uuid other) ≡ None)
+  pub holds : (other : ℕ) → found new (hold_name uuid other) ≡ found old (hold_name uuid other)
 
 module _ (uuid : List ℕ) (old new : Objects) (epoch next : ℕ) (plain : PlainState) (landed : Numbers)
+    (valid : IsPlainVolume plain)
     (keeps : KeepsUpTo uuid (recovered_number landed plain) old new) (has : HasVolumeUpTo uuid epoch plain landed old)
     (described : HasVolume uuid plain.geometry next new) where
   abbrev volume : Expected
@@ -73,11 +80,25 @@ module _ (uuid : List ℕ) (old new : Objects) (epoch next : ℕ) (plain : Plain
     says = is.says;
   }
 
+  -- the checkpoint of a hold is not past the number
+  keeps_holds : KeepsHolds volume old new
+  keeps_holds = record {
+    names = keeps.holds;
+    checkpoints = λ other held.
+        (let number = recovered_number landed plain in
+        let is = (has.holds.same other).1 (other, held, inl refl) in
+        keeps.same other
+        (any_tells (λ n. eqb n other) (IsKeptByHold number (absent_of landed plain.given_out)) (other ≤ number) plain.held is
+        (held_is_found plain landed valid has.may)
+        (λ n same kept. omega (arith, same_number n other same, kept.acknowledged))));
+  }
+
   pub keeps_up_to : HasVolumeUpTo uuid next plain landed new
   keeps_up_to = record {
     described = described;
     blank = has.blank;
     seals = has.seals;
+    holds = holds_stay volume plain.held old new keeps_holds has.holds;
     may = has.may;
     there = λ other some most landed_there.
         (let there = has.there other some most landed_there in (there.0, keeps.same other most ∙ there.1, there.2));
@@ -98,6 +119,7 @@ module _ (uuid : List ℕ) (number : ℕ) (old new : Objects) (removes : Removes
   removal_keeps = record {
     same = λ other low. removes.others (numbered_name uuid other) (λ past. absurd (omega (arith, past.1.1, low)));
     later = λ other. removes.removed (numbered_name uuid other);
+    holds = λ other. removes.others (hold_name uuid other) (λ past. (let e = past.1.0 in cc));
   }
 
   pub removal_keeps_volume : (geometry : Geometry) (epoch : ℕ) → HasVolume uuid geometry epoch old
@@ -110,11 +132,11 @@ module _ (uuid : List ℕ) (number : ℕ) (old new : Objects) (removes : Removes
       })).has geometry epoch has
 
 pub removal_keeps_up_to : (uuid : List ℕ) (old new : Objects) (epoch : ℕ) (plain : PlainState) (landed : Numbers)
-    → Removes (IsPastOf uuid (recovered_number landed plain)) old new → HasVolumeUpTo uuid epoch plain landed old
-    → HasVolumeUpTo uuid epoch plain landed new
-removal_keeps_up_to uuid old new epoch plain landed removes has =
+    → IsPlainVolume plain → Removes (IsPastOf uuid (recovered_number landed plain)) old new
+    → HasVolumeUpTo uuid epoch plain landed old → HasVolumeUpTo uuid epoch plain landed new
+removal_keeps_up_to uuid old new epoch plain landed valid removes has =
     let number = recovered_number landed plain in
-    keeps_up_to uuid old new epoch epoch plain landed (removal_keeps uuid number old new removes) has
+    keeps_up_to uuid old new epoch epoch plain landed valid (removal_keeps uuid number old new removes) has
     (removal_keeps_volume uuid number old new removes plain.geometry epoch has.described)
 
 -- where all are, none is left: each was whole, so that a name may have its number
@@ -140,11 +162,14 @@ module _ (uuid : List ℕ) (epoch : ℕ) (old new : Objects) (begun : PutsEpoch 
   same_object : (number : ℕ) → found new (numbered_name uuid number) ≡ found old (numbered_name uuid number)
   same_object number = begun.others (numbered_name uuid number) (epoch_is_no_object uuid number (epoch + 1))
 
-  pub next_is_up_to : (plain : PlainState) (landed : Numbers) → HasVolumeUpTo uuid epoch plain landed old
+  same_hold : (number : ℕ) → found new (hold_name uuid number) ≡ found old (hold_name uuid number)
+  same_hold number = begun.others (hold_name uuid number) (hold_is_no_epoch uuid number (epoch + 1))
+
+  pub next_is_up_to : (plain : PlainState) (landed : Numbers) → IsPlainVolume plain → HasVolumeUpTo uuid epoch plain landed old
       → HasVolumeUpTo uuid (epoch + 1) plain landed new
-  next_is_up_to plain landed has =
-      keeps_up_to uuid old new epoch (epoch + 1) plain landed
-      (record { same = λ other low. same_object other; later = λ other. inl (same_object other) }) has
+  next_is_up_to plain landed valid has =
+      keeps_up_to uuid old new epoch (epoch + 1) plain landed valid
+      (record { same = λ other low. same_object other; later = λ other. inl (same_object other); holds = same_hold }) has
       (next_epoch_is_begun uuid plain.geometry epoch old new has.described begun)
 
   next_is_left : (plain : PlainState) (puts : ℕ → Option (PutState × List ℕ)) → MayBeLeft uuid epoch plain puts old
@@ -153,6 +178,9 @@ module _ (uuid : List ℕ) (epoch : ℕ) (old new : Objects) (begun : PutsEpoch 
     described = next_epoch_is_begun uuid plain.geometry epoch old new left.described begun;
     blank = left.blank;
     seals = left.seals;
+    holds =
+        holds_stay (expected_of uuid plain.geometry) plain.held old new
+        (record { names = same_hold; checkpoints = λ other held. same_object other }) left.holds;
     held = record {
       puts_are = λ other state bytes is.
           subst (MayHoldPut state bytes) (sym (same_object other)) (left.held.puts_are other state bytes is);
@@ -197,7 +225,7 @@ mounted_with_stands owner plain found landed old new disk mounted is_uuid may mo
     let number = recovered_number landed plain in
     let is = mounts (found_in landed plain) found number may.left in
     let all : RemovesAllPast uuid number old new = subst (λ n. RemovesAllPast uuid n old new) is.number_is removed in
-    let has = removal_keeps_up_to uuid old new epoch plain landed all.removes may.volume in
+    let has = removal_keeps_up_to uuid old new epoch plain landed may.valid all.removes may.volume in
     let none = none_is_past uuid epoch plain landed old new is_uuid may.volume all in
     made_with_store uuid epoch (mounted_from landed found plain) mounted.volume.volume new
     (with_cache_shows owner plain found landed old disk mounted may of_volume is)
@@ -212,7 +240,7 @@ mounted_without_stands uuid log epoch plain landed old new mounted is_uuid may m
     subst (λ n. BeginsEpoch uuid n (epoch + 1) old new) is.number_is begins in
     let (middle, all, next) = begun in
     let uploads : UploadsState = mounted.volume.volume.objects.uploads in
-    let has = removal_keeps_up_to uuid old middle epoch plain landed all.removes may.volume in
+    let has = removal_keeps_up_to uuid old middle epoch plain landed may.valid all.removes may.volume in
     let none = none_is_past uuid epoch plain landed old middle is_uuid may.volume all in
     let stands =
     (mounted_stands uuid epoch plain landed plain.cache.log.last log uploads middle may.valid has none).1 in

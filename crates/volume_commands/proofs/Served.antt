@@ -15,6 +15,7 @@ use Rattle.vol_mount.specs.Mounted.{MountedState}
 use Rattle.vol_mount.specs.Refusals.{is_device_fault, is_store_fault_of}
 use Rattle.vol_mount.specs.declared.error.MountError.{MountError}
 use Rattle.vol_mount.specs.declared.error.MountError.TheVariants as mounts
+use Rattle.volume_owner.specs.declared.draining.Drained.{Drained}
 use Rattle.volume_owner.specs.declared.error.OwnerError.{OwnerError}
 use Rattle.volume_owner.specs.declared.error.OwnerError.TheVariants as owners
 use Rattle.volume_owner.specs.Acts.{moment_of}
@@ -150,8 +151,8 @@ drain_refuses_none owners.OutOfMemory why is = let bad : ⊥ = cc in bad
 pub drain_counts_none : {D S : Type 0} (disk_faults : D → ℕ) (store_faults : S → ℕ) (first last : D) (old new : S)
     (error : OwnerError)
     (first_count last_count : ℕ) → disk_faults first ≡ first_count → disk_faults last ≡ last_count
-    → (IsErrOf {T = ℕ} (Err error) owners.Range → ⊥)
-    → CountsEitherFault (is_eio {T = ℕ} (Err error)) first_count last_count (store_faults old) (store_faults new)
+    → (IsErrOf {T = Drained} (Err error) owners.Range → ⊥)
+    → CountsEitherFault (is_eio {T = Drained} (Err error)) first_count last_count (store_faults old) (store_faults new)
     → of_owner error ≡ errors.Fault
     → IsConstant disk_faults → IsConstant store_faults → ⊥
 drain_counts_none disk_faults store_faults first last old new owners.Range n m is_first is_last no_range counted is disks stores =
@@ -175,11 +176,11 @@ length_stays count old new adds counted plain shows =
     ∙ ap (λ (entries : List Entry). plain.end + length entries) (append-nil plain.entries)
 
 -- the volume of an owner who has drained it
-pub drains_all : {R : Type 0} (state : R → ReceiptState) (entries : ℕ) (volume owner closing left : SteppedVolume)
-    (old new : StoreState) → owner ≡ volume → left ≡ closing → DrainOf state (Ok entries) owner closing old new
-    → Drains state entries (moment_of volume old) (moment_of left new)
-drains_all {R} state entries volume owner closing left old new same back drain = record {
-  count = length_stays entries volume.volume closing.volume calls.steps.adds drain.count;
+pub drains_all : {R : Type 0} (state : R → ReceiptState) (drained : Drained) (volume owner closing left : SteppedVolume)
+    (old new : StoreState) → owner ≡ volume → left ≡ closing → DrainOf state (Ok drained) owner closing old new
+    → Drains state drained.entries (moment_of volume old) (moment_of left new)
+drains_all {R} state drained volume owner closing left old new same back drain = record {
+  count = length_stays drained.entries volume.volume closing.volume calls.steps.adds drain.count;
   calls = subst (λ (v : SteppedVolume). IsCall state most_of_call [] false volume v old new) (sym back) calls;
   drained = subst (λ (v : SteppedVolume). IsDrained v.volume) (sym back) drain.drained;
 }

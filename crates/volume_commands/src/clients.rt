@@ -102,7 +102,7 @@ fn drain<D: Disk, S: Store>(
     let volume = owner.into_volume();
     let _ = volume.disk();
     match drained {
-        Ok(entries) => (volume, Ok(entries)),
+        Ok(drained) => (volume, Ok(drained.entries)),
         Err(error) => (volume, Err(error.into())),
     }
 }

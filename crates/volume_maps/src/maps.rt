@@ -5,7 +5,8 @@ ghost use Rattle.std.specs.Option.{option_or};
 ghost use Rattle.lsvd_base.specs.Laws.{first_sector, sector_count};
 ghost use Rattle.extent_map.specs.Extents.{place_at, place_in_range, place_after_set, IsShortest, AllFit};
 ghost use Rattle.object_table.specs.Table.{row_of, with_changed, without, pinned, unpinned, new_row, added};
-ghost use Rattle.object_table.specs.Table.{copied, acknowledged, candidates, IsNewest, IsLowestRemovable};
+ghost use Rattle.object_table.specs.Table.{copied, held, acknowledged, candidates, IsNewest};
+ghost use Rattle.object_table.specs.Table.{IsLowestRemovable};
 ghost use Rattle.reverse_map.specs.Ranges.{IsAbove};
 ghost use Rattle.volume_maps.specs.Places.{object_on, log_on, volume_on, log_number, volume_number};
 ghost use Rattle.volume_maps.specs.Places.{place_left_by, row_left_by};
@@ -301,6 +302,15 @@ impl VolumeMaps {
         ensures counted { IsCounted self.new.settled.rows self.new.objects }
     {
         self.objects.set_copied(number, is_copied);
+    }
+
+    /// A hold keeps an object from now on: it is not removed, and no collection takes sectors from it. One
+    /// that is absent changes nothing. It takes no memory.
+    pub fn hold(&mut self, number: u64)
+        ensures held { self.new ≡ record self.old { objects = with_changed held number self.old.objects } }
+        ensures counted { IsCounted self.new.settled.rows self.new.objects }
+    {
+        self.objects.hold(number);
     }
 
     /// Whether there are objects that a collection may take sectors from. It takes no memory.

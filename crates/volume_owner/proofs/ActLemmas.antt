@@ -28,7 +28,7 @@ use Rattle.volume_owner.specs.Replies.{attempt_in}
 
 -- ---- one after the other
 
-acts_then : {R : Type 0} (state : R → ReceiptState) (first second : List (Act R)) (old mid new : Moment)
+pub acts_then : {R : Type 0} (state : R → ReceiptState) (first second : List (Act R)) (old mid new : Moment)
     → AreActs state first old mid
     → AreActs state second mid new → AreActs state (first ++ second) old new
 acts_then state [] second old mid new same are = subst (λ (m : Moment). AreActs state second m new) same are
@@ -158,7 +158,7 @@ attempt_step state entry reply old new of = record {
 
 -- ---- a put and what the volume is told of it
 
-has_put : (name own : ObjName) (bytes : List ℕ) → name ≡ own → (old new : Option Objects) → Becomes (IsPut name bytes) old new
+pub has_put : (name own : ObjName) (bytes : List ℕ) → name ≡ own → (old new : Option Objects) → Becomes (IsPut name bytes) old new
     → IfSome new (λ objects. found objects own ≡ Some bytes)
 has_put name own bytes same None new is = subst (λ o. IfSome o (λ objects. found objects own ≡ Some bytes)) (sym is) tt
 has_put name own bytes same (Some old) new is =
@@ -179,17 +179,23 @@ module _ {R : Type 0} (state : R → ReceiptState) (job : JobState) (name : ObjN
       subst (λ n. Becomes (PutLeaves failed n job.bytes) first.objects second.objects) named
       (subst (λ b. Becomes (PutLeaves failed name b) first.objects second.objects) same left)
 
-  the_put : (failed : Bool) → Becomes (PutLeaves failed name bytes) first.objects second.objects
+  pub put_is : (failed : Bool) → Becomes (PutLeaves failed name bytes) first.objects second.objects
       → IsAskedOnce (Put name bytes) first.asked second.asked → Counts failed first.faults second.faults
-      → IsMadeOfActs state [] (moment_of old first) (moment_of old second)
-  the_put failed left asked counts = put_acts state job failed (moment_of old first) (moment_of old second) (record {
+      → IsPutAct job failed (moment_of old first) (moment_of old second)
+  put_is failed left asked counts = record {
     volume = refl;
     out = taken.out;
     named = taken.named;
     objects = left_of_job failed left;
     asked = asked_of_job asked;
     faults = counts;
-  })
+  }
+
+  the_put : (failed : Bool) → Becomes (PutLeaves failed name bytes) first.objects second.objects
+      → IsAskedOnce (Put name bytes) first.asked second.asked → Counts failed first.faults second.faults
+      → IsMadeOfActs state [] (moment_of old first) (moment_of old second)
+  the_put failed left asked counts =
+      put_acts state job failed (moment_of old first) (moment_of old second) (put_is failed left asked counts)
 
   -- it is done
   pub done_acts : (receipt : R) → Becomes (IsPut name bytes) first.objects second.objects

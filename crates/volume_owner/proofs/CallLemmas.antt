@@ -1,7 +1,7 @@
 -- Calls of an owner, made of steps and puts.
-use Rattle.std.proofs.Common.{arith, ◌≡◌, ℕ, ◌+◌, ◌*◌, ◌≤◌, inl, inr, Bool, true, false, List, [], ◌∷◌, length, refl, sym}
+use Rattle.std.proofs.Common.{arith, ◌≡◌, ℕ, ◌+◌, ◌*◌, ◌^◌, ◌≤◌, inl, inr, Bool, true, false, List, [], ◌∷◌, length, refl, sym}
 use Rattle.std.proofs.Common.{◌∙◌, ap, subst}
-use Rattle.std.specs.Prelude.{◌↔◌, Option, Some, None, Result, Ok, Err, IsOkUnless, IsErrOf, IsErrAnd}
+use Rattle.std.specs.Prelude.{◌↔◌, Option, Some, None, Result, Ok, Err, IfOk, OnOk, IsOkUnless, IsErrOf, IsErrAnd}
 use Rattle.lsvd_base.specs.declared.entry.Entry.{Entry}
 use Rattle.lsvd_base.specs.declared.geometry.Geometry.{Geometry}
 use Rattle.lsvd_base.specs.Limits.{may_transfer}
@@ -15,8 +15,12 @@ use Rattle.lsvd_objstore.specs.Objects.{Objects, found, IsPut, MayBePut}
 use Rattle.lsvd_objstore.specs.Store.{StoreState, ReceiptState, OnlyCounts, Becomes, has_failed}
 use Rattle.vol_core.specs.Volume.{SteppedVolume}
 use Rattle.volume_owner.specs.Acts.{moment_of, IsMadeOfActs}
+use Rattle.volume_owner.specs.Tally.{IsTally}
 use Rattle.volume_owner.specs.Calls.{IsLengthOf, IsDrained, HasSectors, KeepsOtherNames, CountsEitherFault, MakesSteps, IsCall}
 use Rattle.volume_owner.specs.Calls.{EnterOf, DrainOf, ReadOf}
+use Rattle.volume_owner.specs.Collecting.{HasNoVictim, CollectAllOf, most_of_collection}
+use Rattle.volume_owner.specs.declared.collecting_all.Collected.{Collected}
+use Rattle.volume_owner.specs.declared.draining.Drained.{Drained}
 use Rattle.volume_owner.specs.declared.error.OwnerError.{OwnerError}
 use Rattle.volume_owner.specs.declared.error.OwnerError.TheVariants as errors
 use Rattle.volume_owner.specs.declared.reading.SectorsRead.{SectorsRead}
@@ -211,6 +215,20 @@ call_ends_none {R} {T} state most result error old new first second is call =
     subst (λ (r : Result T OwnerError). IsCall state most [] (is_eio r) old new first second) (sym (handed_on result error is))
     call
 
+-- an error promises nothing that an answer would
+pub no_answer : {T : Type 0} (result : Result T OwnerError) (error : OwnerError) (P : T → Type 0) → result ≡ Err error
+    → IfOk result P
+no_answer {T} result error P is = subst (λ (r : Result T OwnerError). IfOk r P) (sym is) tt
+
+pub none_answered : {T : Type 0} (result : Result T OwnerError) (error : OwnerError) (P : Type 0) → result ≡ Err error
+    → OnOk result P
+none_answered {T} result error P is = subst (λ (r : Result T OwnerError). OnOk r P) (sym is) tt
+
+-- what holds in any case does where there is an answer
+pub answered : {T : Type 0} (result : Result T OwnerError) (P : Type 0) → P → OnOk result P
+answered (Ok value) P is = is
+answered (Err error) P is = tt
+
 -- the same error tells the same of any call
 pub same_eio : (A B : Type 0) (error : OwnerError) → is_eio {T = A} (Err error) ≡ is_eio {T = B} (Err error)
 same_eio A B errors.Range = refl
@@ -299,25 +317,52 @@ enter_failed state entry result error old new first second is other inside call 
     subst (λ (r : Result ℕ OwnerError). EnterOf state entry r old new first second) (sym is) failed
 
 -- a drain is done
-pub drain_counted : {R : Type 0} (state : R → ReceiptState) (count : ℕ) (old new : SteppedVolume) (first second : StoreState)
-    → IsCall state most_of_call [] false old new first second → IsLengthOf count new.volume → IsDrained new.volume
-    → DrainOf state (Ok count) old new first second
-drain_counted state count old new first second call length_is drained = record {
+pub drain_counted : {R : Type 0} (state : R → ReceiptState) (drained : Drained) (old new : SteppedVolume)
+    (first second : StoreState) → IsCall state most_of_call [] false old new first second
+    → IsLengthOf drained.entries new.volume
+    → IsTally state 0 drained.removed (moment_of old first) (moment_of new second) → drained.removed ≤ 2 ^ 37
+    → IsDrained new.volume → DrainOf state (Ok drained) old new first second
+drain_counted state drained old new first second call length_is removed few is = record {
   call = call;
   count = length_is;
-  drained = drained;
+  removed = removed;
+  few = few;
+  drained = is;
   in_range = λ is. cc;
 }
 
 -- or it fails
-pub drain_failed : {R : Type 0} (state : R → ReceiptState) (result : Result ℕ OwnerError) (error : OwnerError)
+pub drain_failed : {R : Type 0} (state : R → ReceiptState) (result : Result Drained OwnerError) (error : OwnerError)
     (old new : SteppedVolume) (first second : StoreState) → result ≡ Err error → (error ≡ errors.Range → ⊥)
-    → IsCall state most_of_call [] (is_eio {T = ℕ} (Err error)) old new first second
+    → IsCall state most_of_call [] (is_eio {T = Drained} (Err error)) old new first second
     → DrainOf state result old new first second
 drain_failed state result error old new first second is other call =
     let failed : DrainOf state (Err error) old new first second =
-    record { call = call; count = tt; drained = tt; in_range = other_error error other } in
-    subst (λ (r : Result ℕ OwnerError). DrainOf state r old new first second) (sym is) failed
+    record { call = call; count = tt; removed = tt; few = tt; drained = tt; in_range = other_error error other } in
+    subst (λ (r : Result Drained OwnerError). DrainOf state r old new first second) (sym is) failed
+
+-- a whole collection is done
+pub collect_counted : {R : Type 0} (state : R → ReceiptState) (collected : Collected) (old new : SteppedVolume)
+    (first second : StoreState) → IsCall state most_of_collection [] false old new first second
+    → IsTally state collected.copied collected.removed (moment_of old first) (moment_of new second) → HasNoVictim new.volume
+    → IsDrained new.volume → CollectAllOf state (Ok collected) old new first second
+collect_counted state collected old new first second call tally none drained = record {
+  call = call;
+  tally = tally;
+  victims = none;
+  drained = drained;
+  error = λ is. cc;
+}
+
+-- or it fails
+pub collect_failed : {R : Type 0} (state : R → ReceiptState) (result : Result Collected OwnerError) (error : OwnerError)
+    (old new : SteppedVolume) (first second : StoreState) → result ≡ Err error → (error ≡ errors.Range → ⊥)
+    → IsCall state most_of_collection [] (is_eio {T = Collected} (Err error)) old new first second
+    → CollectAllOf state result old new first second
+collect_failed state result error old new first second is other call =
+    let failed : CollectAllOf state (Err error) old new first second =
+    record { call = call; tally = tt; victims = tt; drained = tt; error = other_error error other } in
+    subst (λ (r : Result Collected OwnerError). CollectAllOf state r old new first second) (sym is) failed
 
 -- a read of sectors that may not be transferred is refused, and nothing is done
 pub read_refused : {R : Type 0} (state : R → ReceiptState) (lba sectors : ℕ) (volume : SteppedVolume)

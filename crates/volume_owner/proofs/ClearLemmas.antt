@@ -29,6 +29,7 @@ use Rattle.vol_core.specs.View.{HasNoPins, objects_on_way, object_name_in, remov
 use Rattle.vol_core.specs.Events.{Tells, IsOfRemoval}
 use Rattle.vol_core.specs.Step.{passing, IsStep, IsNoStep, lacks_memory, CountedStep}
 use Rattle.volume_owner.specs.Owner.{IsIdle}
+use Rattle.volume_owner.specs.Tally.{removed_if_told}
 use Rattle.volume_owner.specs.Calls.{HasNoneToRemove, MakesSteps}
 use Rattle.volume_owner.specs.Clearing.{HasAllPut, AwaitsCheckpoint, IsSealedUp}
 use Rattle.volume_owner.specs.declared.error.OwnerError.{OwnerError}
@@ -36,7 +37,7 @@ use Rattle.volume_owner.specs.declared.error.OwnerError.TheVariants as errors
 use Rattle.volume_owner.specs.Replies.{seal_in, tells_checkpoint, receipt_in}
 use Rattle.volume_owner.proofs.PlainLemmas.{is_quiet}
 use Rattle.volume_owner.proofs.WindowLemmas.{any_started, entered_none}
-use Rattle.volume_owner.proofs.TellsLemmas.{tells_sealed, tells_removing, tells_told}
+use Rattle.volume_owner.proofs.TellsLemmas.{tells_sealed, tells_removing, tells_removed, tells_told}
 use Rattle.volume_owner.proofs.ReplyLemmas.{seal_cases, receipt_cases}
 use Rattle.volume_owner.proofs.StepLemmas.{shown_idle, idle_shown, plans_shown, plans_plain, quiet_makes}
 use Rattle.volume_owner.proofs.PutLemmas.{all_put_plain, all_put_shown, awaiting_shown, with_checkpoint, checkpoint_awaits}
@@ -405,6 +406,20 @@ module _ {R : Type 0} (state : R → ReceiptState) (number : ℕ) (reply : Reply
 
   pub remove_done_faults : new.volume.log.commits.disk.faults ≡ old.volume.log.commits.disk.faults
   remove_done_faults = silent_faults state (asks.RemoveDone number) reply plain old new (λ asked is. ap is_silent is) shows of
+
+  told_by : IsStep state (asks.RemoveDone number) reply plain old.volume new.volume
+      ⊎ IsNoStep state (asks.RemoveDone number) reply plain old.volume new.volume → reply ≡ told.Removed
+  told_by (inl s) =
+      let out : is_out number plain.removal ≡ true =
+      own_out number plain.removal (sym shows.table.removal ∙ removing.out) in
+      let tells : Tells state old.volume reply (if is_out number plain.removal then replies.Removed else replies.Nothing) =
+      subst (λ e. Tells state old.volume reply (plain_reply (passing s.left plain) e)) s.asks s.tells in
+      tells_removed state old.volume reply
+      (subst (λ (b : Bool). Tells state old.volume reply (if b then replies.Removed else replies.Nothing)) out tells)
+  told_by (inr n) = (let may = n.may in let bad : ⊥ = cc in absurd bad)
+
+  pub remove_done_told : removed_if_told reply ≡ 1
+  remove_done_told = ap removed_if_told (told_by (of.step.step plain shows))
 
   removing_done : IsStep state (asks.RemoveDone number) reply plain old.volume new.volume
       ⊎ IsNoStep state (asks.RemoveDone number) reply plain old.volume new.volume

@@ -1,14 +1,17 @@
 -- What the steps of a turn of a collection do: a copy is planned, what was copied is sealed, a plan is given up.
 use Rattle.std.proofs.Common.{arith, ◌≡◌, ℕ, ◌+◌, ◌≤◌, ◌⊎◌, inl, inr, Bool, true, false, not, ◌&&◌, List, [], ◌∷◌}
-use Rattle.std.proofs.Common.{length, length-append, refl, sym, ◌∙◌, ap, subst}
-use Rattle.std.specs.Prelude.{Option, Some, None, is_some, Result, Ok, Err, IsOkUnless, if◌then◌else◌, nat_lt}
+use Rattle.std.proofs.Common.{length, length-append, refl, sym, ◌∙◌, ap, subst, zero-add}
+use Rattle.std.specs.Prelude.{Option, Some, None, is_some, Result, Ok, Err, IfOk, IsOkUnless, if◌then◌else◌, nat_lt}
+use Rattle.std.specs.List.{sum_by}
+use Rattle.std.proofs.lemmas.List.Sums.{sum_by-cons}
+use Rattle.std.proofs.lemmas.Result.{IfOk-weaker}
 use Rattle.std.proofs.lemmas.Bool.Decides.{nat_tests}
 use Rattle.lsvd_device.specs.Calls.{Fuse}
 use Rattle.lsvd_fault.specs.Faults.{Counts}
 use Rattle.lsvd_objstore.specs.Store.{StoreState, ReceiptState, OnlyCounts, Becomes}
 use Rattle.gc_copier.specs.declared.error.CopyError.{CopyError}
 use Rattle.gc_copier.specs.declared.error.CopyError.TheVariants as copy_errors
-use Rattle.gc_copier.specs.Plan.{PlanState}
+use Rattle.gc_copier.specs.Plan.{PlanState, sectors_of}
 use Rattle.gc_copier.specs.Copying.{CopiedState, IsCopyOf, has_failed}
 use Rattle.object_stream.specs.declared.object.CopiedSector.{CopiedSector}
 use Rattle.object_uploads.specs.State.{QueueState}
@@ -36,9 +39,10 @@ use Rattle.volume_owner.specs.declared.collecting.Turn.TheVariants.{Did, Idle}
 use Rattle.volume_owner.specs.declared.error.OwnerError.{OwnerError}
 use Rattle.volume_owner.specs.declared.error.OwnerError.TheVariants as errors
 use Rattle.volume_owner.specs.Owner.{IsIdle}
-use Rattle.volume_owner.specs.Acts.{moment_of, IsMadeOfActs}
+use Rattle.volume_owner.specs.Acts.{moment_of, Act, Made, IsMadeOfActs}
+use Rattle.volume_owner.specs.Tally.{copied_if_told, copied_by_act, removed_by_act, IsTally}
 use Rattle.volume_owner.specs.Calls.{MakesSteps, IsCall, CountsEitherFault, KeepsOtherNames}
-use Rattle.volume_owner.specs.Collecting.{may_collect, ShowsAfter, CollectsAsPlain, GivesUp, SealsAsPlain, EndsPlan}
+use Rattle.volume_owner.specs.Collecting.{may_collect, ShowsAfter, CollectsAsPlain, GivesUp, SealsAsPlain, EndsPlan, copied_in}
 use Rattle.volume_owner.specs.Errors.{is_eio, of_copy}
 use Rattle.volume_owner.specs.Replies.{copying_in, turn_in}
 use Rattle.volume_owner.proofs.ActLemmas.{made_then, get_acts}
@@ -46,7 +50,9 @@ use Rattle.volume_owner.proofs.CallLemmas.{becomes_same, store_counts}
 use Rattle.volume_owner.proofs.HelpLemmas.{is_silent, silent_faults}
 use Rattle.volume_owner.proofs.PlainLemmas.{is_quiet}
 use Rattle.volume_owner.proofs.StepLemmas.{shown_idle, idle_shown, quiet_makes}
+use Rattle.volume_owner.proofs.TallyLemmas.{step_tally, quiet_tally, tally_before}
 use Rattle.volume_owner.proofs.TellsLemmas.{tells_copying}
+use Rattle.volume_owner.proofs.VictimLemmas.{plan_plain}
 use Rattle.volume_owner.proofs.WindowLemmas.{any_started, entered_none}
 
 -- ---- what a volume shows
@@ -107,6 +113,14 @@ module _ {R : Type 0} (state : R → ReceiptState) (reply : Reply R) (old new : 
 
   pub drop_gives_up : GivesUp old.volume new.volume
   drop_gives_up plain shows = dropping plain (of.step.step plain shows)
+
+  pub drop_none : new.volume.plan ≡ None
+  drop_none =
+      let shown = drop_gives_up of.was.plain of.was.shows in
+      plan_plain new.volume.objects.uploads.queue new.volume.plan _ refl shown.plan
+
+  pub drop_tally : (store : StoreState) → IsTally state 0 0 (moment_of old store) (moment_of new store)
+  drop_tally store = step_tally state asks.DropPlan reply 0 0 old new store of tt refl refl (λ was. drop_none)
 
   pub dropped_idle : IsIdle old.volume → IsIdle new.volume
   dropped_idle idle =
@@ -172,6 +186,12 @@ copying_plan {R} reply plan is was out changes =
       | inr (inl e) ↦ (let both = sym e ∙ is in let bad : ⊥ = cc in absurd bad)
       | inr (inr e) ↦ (let both = sym e ∙ is in let bad : ⊥ = cc in absurd bad)
     ]
+
+-- a reply that hands none out leaves the plan that is out
+plan_stays : {R : Type 0} (reply : Reply R) → copying_in reply ≡ Ok None → (was out : Option PlanState)
+    → ChangesPlan {R = R} asks.PlanCopy reply was out → out ≡ was
+plan_stays (told.Copying plan) is was out changes = (let bad : ⊥ = cc in absurd bad)
+plan_stays reply is was out changes = changes
 
 -- a reply that hands out none leaves the plain volume as it was
 no_copying : {R : Type 0} (reply : Reply R) (plain : PlainState) (new : VolumeState)
@@ -249,6 +269,27 @@ module _ {R : Type 0} (state : R → ReceiptState) (reply : Reply R) (old new : 
   pub plans : (plain : PlainState) → Shows old.volume plain → PlansAsPlain (copying_in reply) plain new.volume
   plans plain shows = planned_by plain (of.step.step plain shows)
 
+  -- none is out after it, where none was and none is handed out
+  pub no_plan_tally : copying_in reply ≡ Ok None → (store : StoreState)
+      → IsTally state 0 0 (moment_of old store) (moment_of new store)
+  no_plan_tally is store =
+      quiet_tally state asks.PlanCopy reply 0 old new store of tt refl refl
+      (plan_stays reply is old.volume.plan new.volume.plan of.step.copying)
+
+  -- or what comes after it ends the plan
+  pub plan_tally : (copied : ℕ) (last : SteppedVolume) (first second : StoreState)
+      → IsTally state copied 0 (moment_of new first) (moment_of last second) → last.volume.plan ≡ None
+      → IsTally state copied 0 (moment_of old first) (moment_of last second)
+  plan_tally copied last first second rest none =
+      let act : Act R = Made asks.PlanCopy reply in
+      record {
+        acts = act ∷ rest.acts;
+        done = (moment_of new first, record { step = of; store = refl; object = tt }, rest.done);
+        copies = sum_by-cons copied_by_act act rest.acts ∙ zero-add (sum_by copied_by_act rest.acts) ∙ rest.copies;
+        removals = sum_by-cons removed_by_act act rest.acts ∙ zero-add (sum_by removed_by_act rest.acts) ∙ rest.removals;
+        plan = λ was. none;
+      }
+
   left_idle : (copying : Result (Option PlanState) OwnerError) (plain : PlainState) → PlansAsPlain copying plain new.volume
       → LeavesIdle plain new.volume
   left_idle (Ok (Some plan)) plain made = leaves_same plain new.volume _ made.shows refl refl refl
@@ -265,9 +306,9 @@ module _ {R : Type 0} (state : R → ReceiptState) (reply : Reply R) (old new : 
 -- the plan that is out is the plain volume's
 out_shown : (queue : QueueState) (out : Option PlanState) (copied : CopiedState) (plain : PlainState) → IsPlanned out copied
     → ShowsPlan queue out plain
-    → (sectors : List CopiedSector) × (plain.plan ≡ Some sectors)
+    → (sectors : List CopiedSector) × (plain.plan ≡ Some sectors) × (sectors_of copied.rows ≡ length sectors)
 out_shown queue None copied plain planned shows = absurd planned
-out_shown queue (Some plan) copied plain planned shows = (shows.0, shows.1)
+out_shown queue (Some plan) copied plain planned shows = (shows.0, shows.1, ap sectors_of planned.0 ∙ shows.2.count)
 
 -- a copy by a plan is of it
 pub is_planned : (out : Option PlanState) (plan : PlanState) (copied : CopiedState) → out ≡ Some plan → IsCopyOf plan copied
@@ -276,9 +317,10 @@ is_planned out plan copied is of = subst (λ o. IsPlanned o copied) (sym is) (of
 
 -- what a seal of what was copied leaves: the copy is sealed, or nothing has changed
 abbrev pub TriesSeal : Result Turn OwnerError → PlainState → (new : VolumeState) → Type 0
-TriesSeal (Ok Did) plain new =
+TriesSeal (Ok (Did count)) plain new =
     (is_busy plain ≡ false)
-    × ((sectors : List CopiedSector) → plain.plan ≡ Some sectors → ShowsAfter new (with_copy sectors plain))
+    × ((sectors : List CopiedSector) → plain.plan ≡ Some sectors
+    → (count ≡ length sectors) × ShowsAfter new (with_copy sectors plain))
 TriesSeal (Ok Idle) plain new = (is_busy plain ≡ true) × ShowsAfter new plain
 TriesSeal (Err error) plain new = ShowsAfter new plain
 
@@ -292,21 +334,24 @@ refusal_not_sealed seal_refusals.Busy number tells = cc
 refusal_not_sealed seal_refusals.OutOfMemory number tells = tells
 
 module _ {R : Type 0} (state : R → ReceiptState) (copied : CopiedState) (volume : VolumeState) (plain : PlainState)
-    (new : VolumeState) (sectors : List CopiedSector) (out_is : plain.plan ≡ Some sectors) where
+    (new : VolumeState) (sectors : List CopiedSector) (out_is : plain.plan ≡ Some sectors) (count : ℕ)
+    (count_is : count ≡ length sectors) where
   did_seal : (left : Fuse) → is_busy plain ≡ false → ShowsAfter new (with_copy sectors (passing left plain))
-      → TriesSeal (Ok Did) plain new
+      → TriesSeal (Ok (Did count)) plain new
   did_seal left free shows = (
     free,
     λ others is. (
         let both : Some sectors ≡ Some others = sym out_is ∙ is in
-        let same : sectors ≡ others = cc in
-        subst (λ s. ShowsAfter new (with_copy s plain)) same shows
+        let same : sectors ≡ others = cc in (
+          count_is ∙ ap (λ (s : List CopiedSector). length s) same,
+          subst (λ s. ShowsAfter new (with_copy s plain)) same shows,
+        )
         ),
   )
 
   refused_seal : (why : SealRefusal) (back : CopiedState) (number : ℕ) (is_full : Bool) → is_busy plain ≡ is_full
       → TellsSealRefusal why (sealed_reply (Some sectors) true is_full number) → ShowsAfter new plain
-      → TriesSeal (turn_in {R = R} (told.NotSealed back why)) plain new
+      → TriesSeal (turn_in {R = R} count (told.NotSealed back why)) plain new
   refused_seal seal_refusals.NotPlanned back number true full tells shows = (let bad : ⊥ = cc in absurd bad)
   refused_seal seal_refusals.NotPlanned back number false full tells shows = (let bad : ⊥ = cc in absurd bad)
   refused_seal seal_refusals.Busy back number true full tells shows = (full, shows)
@@ -318,7 +363,7 @@ module _ {R : Type 0} (state : R → ReceiptState) (copied : CopiedState) (volum
       → HandsBack (asks.SealCopy copied) reply
       → Tells state volume reply (sealed_reply (Some sectors) true is_full (plain.window.last + 1))
       → Shows new (passing now (after_sealed_copy (true && not is_full) (Some sectors) (passing left plain)))
-      → TriesSeal (turn_in reply) plain new
+      → TriesSeal (turn_in count reply) plain new
   sealing (told.Sealed number) left now true full now_is back tells shows = (let bad : ⊥ = cc in absurd bad)
   sealing (told.Sealed number) left now false full now_is back tells shows =
       did_seal left full (subst (λ f. Shows new (passing f (with_copy sectors (passing left plain)))) now_is shows)
@@ -329,12 +374,20 @@ module _ {R : Type 0} (state : R → ReceiptState) (copied : CopiedState) (volum
   sealing reply left now is_full full now_is back tells shows = absurd back
 
   lacking : (reply : Reply R) → HandsBack (asks.SealCopy copied) reply → lacks_memory reply ≡ true → ShowsAfter new plain
-      → TriesSeal (turn_in reply) plain new
+      → TriesSeal (turn_in count reply) plain new
   lacking (told.Sealed number) back lacks shows = (let bad : ⊥ = cc in absurd bad)
   lacking (told.NotSealed given seal_refusals.NotPlanned) back lacks shows = (let bad : ⊥ = cc in absurd bad)
   lacking (told.NotSealed given seal_refusals.Busy) back lacks shows = (let bad : ⊥ = cc in absurd bad)
   lacking (told.NotSealed given seal_refusals.OutOfMemory) back lacks shows = shows
   lacking reply back lacks shows = absurd back
+
+-- how many sectors were copied is what the turn tells
+copied_told : {R : Type 0} (copied : CopiedState) (reply : Reply R)
+    → IfOk (turn_in (sectors_of copied.rows) reply) (λ turn. copied_if_told copied reply ≡ copied_in turn)
+copied_told copied (told.Sealed number) = refl
+copied_told copied (told.NotSealed back seal_refusals.NotPlanned) = refl
+copied_told copied (told.NotSealed back seal_refusals.Busy) = refl
+copied_told copied reply = tt
 
 module _ {R : Type 0} (state : R → ReceiptState) (copied : CopiedState) (reply : Reply R) (old new : SteppedVolume)
     (of : CountedStep state (asks.SealCopy copied) reply old new) where
@@ -350,35 +403,40 @@ module _ {R : Type 0} (state : R → ReceiptState) (copied : CopiedState) (reply
   planned_truly true of_plan planned = refl
   planned_truly false of_plan planned = absurd (of_plan planned)
 
+  abbrev turn : Result Turn OwnerError
+  turn = turn_in (sectors_of copied.rows) reply
+
   copied_by : (plain : PlainState) (sectors : List CopiedSector) → plain.plan ≡ Some sectors
+      → sectors_of copied.rows ≡ length sectors
       → IsPlanned old.volume.plan copied
       → IsStep state (asks.SealCopy copied) reply plain old.volume new.volume
       ⊎ IsNoStep state (asks.SealCopy copied) reply plain old.volume new.volume
-      → TriesSeal (turn_in reply) plain new.volume
-  copied_by plain sectors out_is planned (inl s) =
+      → TriesSeal turn plain new.volume
+  copied_by plain sectors out_is count_is planned (inl s) =
       let ready : PlainState = passing s.left plain in
       let now : Fuse = fuse_in new.volume.log.commits.disk.budget in
       let truly = planned_truly s.asks.0 s.asks.2 planned in
       let tells = subst (λ e. Tells state old.volume reply (plain_reply ready e)) s.asks.1 s.tells in
       let shows = subst (λ e. Shows new.volume (passing now (plain_after e ready))) s.asks.1 s.shows in
-      sealing state copied old.volume plain new.volume sectors out_is reply s.left now (is_busy plain) refl refl of.step.back
+      sealing state copied old.volume plain new.volume sectors out_is (sectors_of copied.rows) count_is reply s.left now
+      (is_busy plain) refl refl of.step.back
       (subst (λ o. Tells state old.volume reply (sealed_reply o true (is_busy plain) (plain.window.last + 1))) out_is
       (subst (λ b. Tells state old.volume reply (sealed_reply plain.plan b (is_busy plain) (plain.window.last + 1))) truly tells))
       (subst (λ o. Shows new.volume (passing now (after_sealed_copy (true && not (is_busy plain)) o ready))) out_is
       (subst (λ b. Shows new.volume (passing now (after_sealed_copy (b && not (is_busy plain)) plain.plan ready))) truly shows))
-  copied_by plain sectors out_is planned (inr n) =
-      lacking state copied old.volume plain new.volume sectors out_is reply of.step.back n.lacks
+  copied_by plain sectors out_is count_is planned (inr n) =
+      lacking state copied old.volume plain new.volume sectors out_is (sectors_of copied.rows) count_is reply of.step.back n.lacks
       (shows_after new.volume plain n.shows)
 
   pub seals : IsPlanned old.volume.plan copied → (plain : PlainState) → Shows old.volume plain
-      → TriesSeal (turn_in reply) plain new.volume
+      → TriesSeal turn plain new.volume
   seals planned plain shows =
       let out = out_shown old.volume.objects.uploads.queue old.volume.plan copied plain planned shows.plan in
-      copied_by plain out.0 out.1 planned (of.step.step plain shows)
+      copied_by plain out.0 out.1 out.2 planned (of.step.step plain shows)
 
   tried_idle : (turn : Result Turn OwnerError) (plain : PlainState) (sectors : List CopiedSector) → plain.plan ≡ Some sectors
       → TriesSeal turn plain new.volume → LeavesIdle plain new.volume
-  tried_idle (Ok Did) plain sectors out_is tried =
+  tried_idle (Ok (Did count)) plain sectors out_is tried =
       let opened : OpenObject = record {
         number = plain.window.last + 1;
         is_checkpoint = false;
@@ -389,7 +447,7 @@ module _ {R : Type 0} (state : R → ReceiptState) (copied : CopiedState) (reply
       let free = tried.0 in
       record {
         after = _;
-        shows = tried.1 sectors out_is;
+        shows = (tried.1 sectors out_is).1;
         pins = refl;
         removal = refl;
         puts = λ none. entered_none plain.window.objects opened none refl;
@@ -406,19 +464,40 @@ module _ {R : Type 0} (state : R → ReceiptState) (copied : CopiedState) (reply
       let was = of.was.plain in
       let out = out_shown old.volume.objects.uploads.queue old.volume.plan copied was planned of.was.shows.plan in
       leaves_idle old.volume new.volume was of.was.shows idle
-      (tried_idle (turn_in reply) was out.0 out.1 (seals planned was of.was.shows))
+      (tried_idle turn was out.0 out.1 (seals planned was of.was.shows))
 
-pub turn_lacks : {R : Type 0} (reply : Reply R) → IsOkUnless (turn_in reply) errors.OutOfMemory
-turn_lacks (told.Sealed number) = tt
-turn_lacks (told.NotSealed copied seal_refusals.NotPlanned) = tt
-turn_lacks (told.NotSealed copied seal_refusals.Busy) = tt
-turn_lacks reply = refl
+  sealed_plan : (reply : Reply R) (was out : Option PlanState) → ChangesPlan {R = R} (asks.SealCopy copied) reply was out
+      → was ≡ None → out ≡ None
+  sealed_plan (told.Sealed number) was out changes none = changes
+  sealed_plan reply was out changes none = changes ∙ none
+
+  -- how many sectors it copied is told
+  pub seal_tally : (last : SteppedVolume)
+      → ((store : StoreState) → IsTally state 0 0 (moment_of new store) (moment_of last store))
+      → IfOk turn (λ t. (store : StoreState) → IsTally state (copied_in t) 0 (moment_of old store) (moment_of last store))
+  seal_tally last gave =
+      IfOk-weaker turn (λ t. copied_if_told copied reply ≡ copied_in t)
+      (λ t. (store : StoreState) → IsTally state (copied_in t) 0 (moment_of old store) (moment_of last store))
+      (λ t is store.
+      tally_before state (copied_in t) 0 (moment_of old store) (moment_of new store) (moment_of last store)
+      (step_tally state (asks.SealCopy copied) reply (copied_in t) 0 old new store of tt is refl
+      (sealed_plan reply old.volume.plan new.volume.plan of.step.copying)) (gave store))
+      (copied_told copied reply)
+
+pub turn_lacks : {R : Type 0} (sectors : ℕ) (reply : Reply R) → IsOkUnless (turn_in sectors reply) errors.OutOfMemory
+turn_lacks sectors (told.Sealed number) = tt
+turn_lacks sectors (told.NotSealed copied seal_refusals.NotPlanned) = tt
+turn_lacks sectors (told.NotSealed copied seal_refusals.Busy) = tt
+turn_lacks sectors reply = refl
 
 -- whatever came of it, a plan that is out is given up
 pub given_up : (turn : Result Turn OwnerError) (plain : PlainState) (mid new : VolumeState) → TriesSeal turn plain mid
     → GivesUp mid new
     → SealsAsPlain turn plain new
-given_up (Ok Did) plain mid new tried gives = (tried.0, λ sectors is. gives _ (tried.1 sectors is))
+given_up (Ok (Did count)) plain mid new tried gives = (
+  tried.0,
+  λ sectors is. (let sealed = tried.1 sectors is in (sealed.0, gives _ sealed.1)),
+)
 given_up (Ok Idle) plain mid new tried gives = (tried.0, gives _ tried.1)
 given_up (Err error) plain mid new tried gives = gives _ tried
 
@@ -435,10 +514,12 @@ ended : (turn : Result Turn OwnerError) (plain : PlainState) (left : Fuse) (firs
     (new : VolumeState) → plain.plan ≡ None → planned_copy plain ≡ first ∷ more
     → SealsAsPlain turn (passing left (record plain { plan = Some (first ∷ more) })) new
     → CollectsAsPlain turn plain new
-ended (Ok Did) plain left first more new none planned ends = (
-  has_work_now plain first more false none ends.0 planned,
-  subst (λ s. ShowsAfter new (with_copy s plain)) (sym planned) (ends.1 (first ∷ more) refl),
-)
+ended (Ok (Did count)) plain left first more new none planned ends =
+    let sealed = ends.1 (first ∷ more) refl in (
+      has_work_now plain first more false none ends.0 planned,
+      sealed.0 ∙ ap (λ (s : List CopiedSector). length s) (sym planned),
+      subst (λ s. ShowsAfter new (with_copy s plain)) (sym planned) sealed.1,
+    )
 ended (Ok Idle) plain left first more new none planned ends = (
   has_work_now plain first more true none ends.0 planned,
   subst (ShowsAfter new) (none_again plain none) ends.1,

@@ -40,6 +40,7 @@ pub record LeavesObjects (plain after : PlainState) : Type 0 where
   pub blank : OpensBlank plain → OpensBlank after
   pub seals : SealsCheckpoints plain → SealsCheckpoints after
   pub out : IsGivenOut plain → IsGivenOut after
+  pub held : after.held ≡ plain.held
   pub objects : OpensBlank plain → (volume : Expected) (n : ℕ) (bytes : List ℕ) → IsObjectOf volume plain n bytes
       → IsObjectOf volume after n bytes
 
@@ -48,6 +49,7 @@ nothing_leaves plain = record {
   blank = λ is. is;
   seals = λ is. is;
   out = λ is. is;
+  held = refl;
   objects = λ blank volume n bytes is. is;
 }
 
@@ -97,6 +99,47 @@ event_out plain (SealCopy is_planned) given = copy_out plain (is_planned && not 
 event_out plain DropPlan given = given
 event_out plain Status given = given
 
+-- ---- what holds keep
+
+either_held : (b : Bool) (x y plain : PlainState) → x.held ≡ plain.held → y.held ≡ plain.held → (cond b x y).held ≡ plain.held
+either_held true x y plain first second = first
+either_held false x y plain first second = second
+
+taking_held : (plain : PlainState) (out lowest : Option ℕ) → (with_removal out lowest plain).held ≡ plain.held
+taking_held plain None (Some n) = refl
+taking_held plain None None = refl
+taking_held plain (Some other) lowest = refl
+
+planning_held : (plain : PlainState) (out : Option (List CopiedSector)) (sectors : List CopiedSector)
+    → (with_plan out sectors plain).held ≡ plain.held
+planning_held plain (Some plan) sectors = refl
+planning_held plain None [] = refl
+planning_held plain None (first ∷ more) = refl
+
+copy_held : (plain : PlainState) (is_sealed : Bool) (out : Option (List CopiedSector))
+    → (after_sealed_copy is_sealed out plain).held ≡ plain.held
+copy_held plain is_sealed None = refl
+copy_held plain is_sealed (Some plan) = either_held is_sealed (with_copy plan plain) plain plain refl refl
+
+event_held : (plain : PlainState) (event : PlainEvent) → (plain_after event plain).held ≡ plain.held
+event_held plain (Write lba body) = refl
+event_held plain (Zero lba sectors) = refl
+event_held plain Flush = refl
+event_held plain (Look lba sectors) = either_held (may_transfer plain.geometry lba sectors) _ plain plain refl refl
+event_held plain (Release numbers) = either_held (are_pinned numbers plain.pins) _ plain plain refl refl
+event_held plain Seal = either_held (has_unsealed plain && not (is_busy plain)) _ plain plain refl refl
+event_held plain TakeJob = refl
+event_held plain (JobDone job) = refl
+event_held plain (JobFailed job) = refl
+event_held plain SealCheckpoint = either_held (is_busy plain) plain _ plain refl refl
+event_held plain TakeRemove = taking_held plain plain.removal (to_remove plain)
+event_held plain (RemoveDone number) = either_held (is_out number plain.removal) _ plain plain refl refl
+event_held plain (RemoveFailed number) = either_held (is_out number plain.removal) _ plain plain refl refl
+event_held plain PlanCopy = planning_held plain plain.plan (planned_copy plain)
+event_held plain (SealCopy is_planned) = copy_held plain (is_planned && not (is_busy plain)) plain.plan
+event_held plain DropPlan = refl
+event_held plain Status = refl
+
 -- ---- the whole
 
 -- what calls the device passes does not matter to what a plain volume opens with, nor to its objects
@@ -145,6 +188,7 @@ event_leaves left now plain event valid =
       blank = λ blank. blank_passing now after (events_keep_opening ready event (blank_passing left plain blank));
       seals = λ seals. seals_passing now after (events_seal ready event is (seals_passing left plain seals));
       out = λ given. event_out ready event given;
+      held = event_held ready event;
       objects = λ blank volume n bytes object. object_passing now after volume n bytes
           (events_keep_object volume ready n bytes event is (blank_passing left plain blank)
           (object_passing left plain volume n bytes object));

@@ -216,6 +216,11 @@ module _ {R : Type 0} (state : R → ReceiptState) (reply : Reply R) (old new : 
   pub take_faults : new.volume.log.commits.disk.faults ≡ old.volume.log.commits.disk.faults
   take_faults = silent_faults state asks.TakeJob reply plain old new (λ asked is. ap is_silent is) shows of
 
+  -- what is in no object stays so
+  pub take_unsealed : old.volume.objects.batch.entries ≡ [] → new.volume.objects.batch.entries ≡ []
+  take_unsealed none =
+      taking.shows.objects.stream.entries ∙ taking.unsealed ∙ sym shows.objects.stream.entries ∙ none
+
   -- a put that begins is out, alone
   pub taken_is : (job : JobState) → IsIdle old.volume → reply ≡ told.Taken job → IsTaken job new.volume
       × (work_of new.volume ≡ work_of old.volume)

@@ -15,6 +15,7 @@ use Rattle.plain_disk.specs.Found.{SealsCheckpoints}
 use Rattle.stopped_volume.specs.Store.{PutState, MayHoldPut}
 use Rattle.stopped_volume.specs.Store.PutState.{Acknowledged, GivenOut, Begun, NotBegun}
 use Rattle.stopped_volume.specs.Super.{HasVolume}
+use Rattle.refine_mount.specs.Found.{HasHolds}
 use Rattle.refine_store.specs.Puts.{IsObjectOf, state_of_put, AreBytesOfPut}
 use Rattle.refine_store.specs.Stored.{StoreStands}
 use Rattle.upload_window.specs.Window.{WindowState, has_number}
@@ -73,6 +74,7 @@ pub record StepLeaves (plain after : PlainState) : Type 0 where
   pub blank : OpensBlank after
   pub seals : SealsCheckpoints after
   pub out : IfSome after.removal (λ number. has after.given_out number ≡ true)
+  pub held : after.held ≡ plain.held
   pub objects : (volume : Expected) (n : ℕ) (bytes : List ℕ) → IsObjectOf volume plain n bytes → IsObjectOf volume after n bytes
 
 module _ (uuid : List ℕ) (epoch : ℕ) (plain after : PlainState) (old new : VolumeState) (objects : Objects)
@@ -88,6 +90,9 @@ module _ (uuid : List ℕ) (epoch : ℕ) (plain after : PlainState) (old new : V
         described = subst (λ g. HasVolume uuid g epoch objects) (sym leaves.geometry) had.described;
         blank = leaves.blank;
         seals = leaves.seals;
+        holds =
+            subst (λ v. HasHolds v after.held objects) (sym volume_is)
+            (subst (λ kept. HasHolds (expected_of uuid plain.geometry) kept objects) (sym leaves.held) had.holds);
         out = leaves.out;
       }
 

@@ -13,6 +13,8 @@ pub mod CollectLemmas
 pub mod ActLemmas
 pub mod CallLemmas
 pub mod RemoveLemmas
+pub mod TallyLemmas
+pub mod VictimLemmas
 pub mod BoundLemmas
 pub mod LoopLemmas
 pub mod ReadLemmas

@@ -124,7 +124,7 @@ one_taken None object window is = record { other = object; one = is; is_checkpoi
 one_taken (Some n) object window is =
     subst (λ (objects : List OpenObject). IsOneStill object (with_started n true objects)) (sym is) (one_marked n object)
 
-last_taken : (lowest : Option ℕ) (window : WindowState) → (window_after_take lowest window).last ≡ window.last
+pub last_taken : (lowest : Option ℕ) (window : WindowState) → (window_after_take lowest window).last ≡ window.last
 last_taken None window = refl
 last_taken (Some n) window = refl
 

@@ -18,7 +18,7 @@ use Rattle.volume_owner.proofs.CallLemmas.{becomes_by}
 
 -- ---- what it leaves
 
-has_gone : (name own : ObjName) → name ≡ own → (old new : Option Objects) → Becomes (IsRemoved name) old new
+pub has_gone : (name own : ObjName) → name ≡ own → (old new : Option Objects) → Becomes (IsRemoved name) old new
     → IfSome new (λ objects. found objects own ≡ None)
 has_gone name own same None new is = subst (λ o. IfSome o (λ objects. found objects own ≡ None)) (sym is) tt
 has_gone name own same (Some old) new is =
@@ -41,19 +41,28 @@ remove_acts : {R : Type 0} (state : R → ReceiptState) (number : ℕ) (failed :
 remove_acts {R} state number failed old new is =
     (let act : Act R = Removes number failed in one_act state act [] old new is refl)
 
+pub removal_is : (number : ℕ) (name : ObjName) (old : SteppedVolume) (first second : StoreState)
+    → removal_out old.volume ≡ Some number → name ≡ object_name_in old.volume number
+    → IsAskedOnce (Remove name) first.asked second.asked → (failed : Bool)
+    → Becomes (RemovalLeaves failed name) first.objects second.objects → Counts failed first.faults second.faults
+    → IsRemoveAct number failed (moment_of old first) (moment_of old second)
+removal_is number name old first second out named asked failed left counts = record {
+  volume = refl;
+  out = out;
+  objects = subst (λ n. Becomes (RemovalLeaves failed n) first.objects second.objects) named left;
+  asked = subst (λ n. IsAskedOnce (Remove n) first.asked second.asked) named asked;
+  faults = counts;
+}
+
 module _ {R : Type 0} (state : R → ReceiptState) (number : ℕ) (name : ObjName) (reply : Reply R) (old new : SteppedVolume)
     (first second : StoreState) (out : removal_out old.volume ≡ Some number) (named : name ≡ object_name_in old.volume number)
     (asked : IsAskedOnce (Remove name) first.asked second.asked) (makes : MakesSteps 1 [] old new)
     (same : new.volume.log.commits.disk.faults ≡ old.volume.log.commits.disk.faults) where
   the_removal : (failed : Bool) → Becomes (RemovalLeaves failed name) first.objects second.objects
       → Counts failed first.faults second.faults → IsMadeOfActs state [] (moment_of old first) (moment_of old second)
-  the_removal failed left counts = remove_acts state number failed (moment_of old first) (moment_of old second) (record {
-    volume = refl;
-    out = out;
-    objects = subst (λ n. Becomes (RemovalLeaves failed n) first.objects second.objects) named left;
-    asked = subst (λ n. IsAskedOnce (Remove n) first.asked second.asked) named asked;
-    faults = counts;
-  })
+  the_removal failed left counts =
+      remove_acts state number failed (moment_of old first) (moment_of old second)
+      (removal_is number name old first second out named asked failed left counts)
 
   -- it is done
   pub removed_call : Becomes (IsRemoved name) first.objects second.objects → second.faults ≡ first.faults

@@ -2,7 +2,7 @@
 use Rattle.std.proofs.Common.{arith, ◌≡◌, ℕ, ◌<◌, zero, suc, ◌≤◌, nat_lt, nat_le, Bool, true, false, not, ◌&&◌, ◌⊎◌, inl, inr}
 use Rattle.std.proofs.Common.{List, [], ◌∷◌, sym, ◌∙◌, refl, ap, subst}
 use Rattle.std.specs.Prelude.{Option, Some, None, IfSome}
-use Rattle.std.proofs.lemmas.Bool.{cases_eq}
+use Rattle.std.proofs.lemmas.Bool.{cases_eq, both_ways}
 use Rattle.std.proofs.lemmas.Bool.Decides.{nat_tests}
 use Rattle.lsvd_base.specs.declared.geometry.Geometry.{Geometry}
 use Rattle.lsvd_names.specs.declared.name.ObjName.{ObjName}
@@ -13,14 +13,18 @@ use Rattle.object_recovery.specs.Checkpoints.{expected_of}
 use Rattle.object_uploads.specs.State.{SealedState, UploadsState}
 use Rattle.object_uploads.specs.Queue.{HasBytesAt}
 use Rattle.object_uploads.specs.Changes.{index_of}
-use Rattle.plain_disk.specs.State.{PlainState, OpensBlank}
+use Rattle.plain_disk.specs.State.{PlainState, OpensBlank, frontier_of}
 use Rattle.plain_disk.specs.Removals.{has}
 use Rattle.plain_disk.specs.Found.{SealsCheckpoints}
+use Rattle.plain_disk.specs.Valid.{IsPlainVolume}
+use Rattle.stopped_volume.specs.Holds.{IsHeld}
 use Rattle.stopped_volume.specs.Store.{PutState, MayHoldPut}
 use Rattle.stopped_volume.specs.Store.PutState.{Acknowledged, GivenOut, Begun, NotBegun}
 use Rattle.stopped_volume.specs.Super.{HasVolume}
+use Rattle.refine_mount.specs.Found.{HasHolds}
 use Rattle.refine_store.specs.Puts.{state_of_put, AreBytesOfPut}
 use Rattle.refine_store.specs.Stored.{StoreStands}
+use Rattle.refine_store.proofs.HoldLemmas.{KeepsHolds, holds_stay, held_by_hold}
 
 -- ---- which objects there are
 
@@ -133,6 +137,7 @@ pub record IsDescribed (uuid : List ℕ) (epoch : ℕ) (plain : PlainState) (obj
   pub described : HasVolume uuid plain.geometry epoch objects
   pub blank : OpensBlank plain
   pub seals : SealsCheckpoints plain
+  pub holds : HasHolds (expected_of uuid plain.geometry) plain.held objects
   pub out : IfSome plain.removal (λ number. has plain.given_out number ≡ true)
 
 module _ (uuid : List ℕ) (epoch : ℕ) (plain : PlainState) (uploads : UploadsState) (objects : Objects) where
@@ -144,6 +149,7 @@ module _ (uuid : List ℕ) (epoch : ℕ) (plain : PlainState) (uploads : Uploads
       described = stands.left.described;
       blank = stands.left.blank;
       seals = stands.left.seals;
+      holds = stands.left.holds;
       out = stands.out;
     }
 
@@ -226,6 +232,7 @@ module _ (uuid : List ℕ) (epoch : ℕ) (plain : PlainState) (uploads : Uploads
         described = described.described;
         blank = described.blank;
         seals = described.seals;
+        holds = described.holds;
         held = record {
           puts_are = λ number state bytes is. (held_put number state bytes is (has_put plain number) refl).0;
           none_else = λ number is. held_none number is (has_put plain number) refl;
@@ -297,6 +304,7 @@ module _ (uuid : List ℕ) (n : ℕ) (old new : Objects) (others : KeepsOthers (
 
   -- so the store stands where the put of that object may have what is there now
   change_stands : (epoch : ℕ) (plain : PlainState) (uploads : UploadsState)
+      → ((k : ℕ) → IsHeld (expected_of uuid plain.geometry) old k → k ≡ n → ⊥)
       → (stands : StoreStands uuid epoch plain uploads old)
       → (has_put plain n ≡ false → found new (numbered_name uuid n) ≡ None)
       → ((bytes : List ℕ) → stands.puts n ≡ Some (state_of_put plain n, bytes)
@@ -304,12 +312,17 @@ module _ (uuid : List ℕ) (n : ℕ) (old new : Objects) (others : KeepsOthers (
       → IsSealedIfBegun (state_of_put plain n) uploads n bytes
       → MayHoldPut (state_of_put plain n) bytes (found new (numbered_name uuid n)))
       → StoreStands uuid epoch plain uploads new
-  change_stands epoch plain uploads stands if_none changes =
+  change_stands epoch plain uploads not_held stands if_none changes =
       let was = is_described uuid epoch plain uploads old stands in
       stands_by_each uuid epoch plain uploads new stands.puts (record {
         described = change_keeps_volume plain.geometry epoch was.described;
         blank = was.blank;
         seals = was.seals;
+        holds =
+            holds_stay (expected_of uuid plain.geometry) plain.held old new (record {
+              names = λ k. others (hold_name uuid k) (hold_is_other uuid k n);
+              checkpoints = λ k held. other_object k (not_held k held);
+            }) was.holds;
         out = was.out;
       }) each
     where
@@ -366,12 +379,15 @@ sealed_bytes state uploads number known bytes is sealed out =
 -- the object of a put that was begun is put, and the store stands
 pub put_stands_still : (uuid : List ℕ) (epoch n : ℕ) (bytes : List ℕ) (plain : PlainState) (uploads : UploadsState)
     (old new : Objects)
-    → has_put plain n ≡ true → state_of_put plain n ≡ Begun
+    → IsPlainVolume plain → frontier_of plain < n → has_put plain n ≡ true → state_of_put plain n ≡ Begun
     → HasBytesAt (index_of uploads n) uploads.queue.sealed bytes
     → IsPut (numbered_name uuid n) bytes old new → StoreStands uuid epoch plain uploads old
     → StoreStands uuid epoch plain uploads new
-put_stands_still uuid epoch n bytes plain uploads old new there begun out put stands =
-    change_stands uuid n old new put.others epoch plain uploads stands
+put_stands_still uuid epoch n bytes plain uploads old new valid past there begun out put stands =
+    change_stands uuid n old new put.others epoch plain uploads
+    (λ k held same.
+    let kept = held_by_hold (expected_of uuid plain.geometry) plain old k valid stands.left.holds held in
+    omega (arith, kept.acknowledged, past, same)) stands
     (λ none. (let bad : ⊥ = (let e = sym none ∙ there in cc) in absurd bad))
     (λ known is held sealed.
     held_by (state_of_put plain n) known bytes (found new (numbered_name uuid n)) begun put.put
@@ -385,9 +401,13 @@ gone_by state known now is none =
 
 -- one that was given out for it is removed, and the store stands
 pub removal_stands_still : (uuid : List ℕ) (epoch n : ℕ) (plain : PlainState) (uploads : UploadsState) (old new : Objects)
-    → state_of_put plain n ≡ GivenOut → IsRemoved (numbered_name uuid n) old new
+    → IsPlainVolume plain → has plain.given_out n ≡ true → state_of_put plain n ≡ GivenOut
+    → IsRemoved (numbered_name uuid n) old new
     → StoreStands uuid epoch plain uploads old → StoreStands uuid epoch plain uploads new
-removal_stands_still uuid epoch n plain uploads old new given removed stands =
-    change_stands uuid n old new removed.others epoch plain uploads stands (λ none. removed.absent)
+removal_stands_still uuid epoch n plain uploads old new valid out given removed stands =
+    change_stands uuid n old new removed.others epoch plain uploads
+    (λ k held same.
+    let kept = held_by_hold (expected_of uuid plain.geometry) plain old k valid stands.left.holds held in
+    both_ways (has plain.given_out k) kept.kept (ap (has plain.given_out) same ∙ out)) stands (λ none. removed.absent)
     (λ known is held sealed.
     gone_by (state_of_put plain n) known (found new (numbered_name uuid n)) given removed.absent)

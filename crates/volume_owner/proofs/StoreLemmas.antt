@@ -348,8 +348,8 @@ put_at : (epoch : ℕ) (volume : VolumeState) (plain : PlainState) (job : JobSta
 put_at epoch volume plain job shows out named old new put stands =
     let n : ℕ = job.name.number in
     let is = begun_put_is volume plain n job.bytes shows out in
-    put_stands_still volume.objects.uploads.uuid epoch n job.bytes plain volume.objects.uploads old new is.there
-    is.begun out.sealed (subst (λ name. IsPut name job.bytes old new) named put) stands
+    put_stands_still volume.objects.uploads.uuid epoch n job.bytes plain volume.objects.uploads old new shows.valid is.past
+    is.there is.begun out.sealed (subst (λ name. IsPut name job.bytes old new) named put) stands
 
 pub may_put_at : (epoch : ℕ) (volume : VolumeState) (plain : PlainState) (job : JobState) → Shows volume plain
     → IsOut volume.objects.uploads job.name.number job.bytes
@@ -382,7 +382,7 @@ remove_at : (epoch : ℕ) (volume : VolumeState) (plain : PlainState) (n : ℕ) 
 remove_at epoch volume plain n shows out old new removed stands =
     let given : has plain.given_out n ≡ true =
     subst (λ r. IfSome r (λ number. has plain.given_out number ≡ true)) (sym shows.table.removal ∙ out) stands.out in
-    removal_stands_still volume.objects.uploads.uuid epoch n plain volume.objects.uploads old new
+    removal_stands_still volume.objects.uploads.uuid epoch n plain volume.objects.uploads old new shows.valid given
     (given_state plain n shows.valid given) removed stands
 
 pub may_remove_at : (epoch : ℕ) (volume : VolumeState) (plain : PlainState) (n : ℕ) → Shows volume plain
@@ -430,6 +430,7 @@ leaves_by uuid epoch added plain after volume objects goes leaves stands =
       blank = leaves.blank was.blank;
       seals = leaves.seals was.seals;
       out = leaves.out was.out;
+      held = leaves.held;
       objects = leaves.objects was.blank;
     }
 

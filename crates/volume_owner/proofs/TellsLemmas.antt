@@ -96,6 +96,29 @@ tells_copying state volume told.Busy sectors tells = let bad : ⊥ = cc in absur
 tells_copying state volume told.Fault sectors tells = let bad : ⊥ = cc in absurd bad
 tells_copying state volume told.OutOfMemory sectors tells = absurd tells
 
+-- that an object was removed
+tells_removed_refusal : (why : EntryRefusal) → TellsRefusal why replies.Removed → ⊥
+tells_removed_refusal refusals.Range tells = cc
+tells_removed_refusal (refusals.Full (full.Sectors sectors)) tells = cc
+tells_removed_refusal (refusals.Full (full.Entries entries)) tells = cc
+tells_removed_refusal (refusals.NoRoom needed left) tells = cc
+tells_removed_refusal refusals.Fault tells = cc
+tells_removed_refusal refusals.OutOfMemory tells = tells
+
+pub tells_removed : {R : Type 0} (state : R → ReceiptState) (volume : VolumeState) (reply : Reply R)
+    → Tells state volume reply replies.Removed → reply ≡ told.Removed
+tells_removed state volume (told.NotEntered entry why) tells = absurd (tells_removed_refusal why tells)
+tells_removed state volume (told.Planned plan) tells = let is = tells.1 in let bad : ⊥ = cc in absurd bad
+tells_removed state volume (told.Taken job) tells = let is = tells.0 in let bad : ⊥ = cc in absurd bad
+tells_removed state volume (told.Removing receipt) tells = let is = tells.0 in let bad : ⊥ = cc in absurd bad
+tells_removed state volume told.Removed tells = refl
+tells_removed state volume (told.Copying plan) tells = let is = tells.1 in let bad : ⊥ = cc in absurd bad
+tells_removed state volume (told.NotSealed copied seal_refusals.NotPlanned) tells = let bad : ⊥ = cc in absurd bad
+tells_removed state volume (told.NotSealed copied seal_refusals.Busy) tells = let bad : ⊥ = cc in absurd bad
+tells_removed state volume (told.NotSealed copied seal_refusals.OutOfMemory) tells = absurd tells
+tells_removed state volume told.OutOfMemory tells = absurd tells
+tells_removed state volume reply tells = let bad : ⊥ = cc in absurd bad
+
 -- that all is durable
 tells_flushed_refusal : (why : EntryRefusal) (count : ℕ) → TellsRefusal why (replies.Flushed count) → ⊥
 tells_flushed_refusal refusals.Range count tells = cc

@@ -1,6 +1,6 @@
 -- Contract: what a call of an owner does to its volume and to the store, told by each plain volume that the volume showed.
-use Rattle.std.specs.Prelude.{◌≡◌, ℕ, ◌+◌, ◌*◌, ◌/◌, ◌≤◌, ◌⊎◌, ◌↔◌, Bool, true, false, None, IsSome, List, [], ◌∷◌, length}
-use Rattle.std.specs.Prelude.{Result, Ok, Err, IfOk, OnOk, IsErrOf, is_err}
+use Rattle.std.specs.Prelude.{◌≡◌, ℕ, ◌+◌, ◌*◌, ◌/◌, ◌^◌, ◌≤◌, ◌⊎◌, ◌↔◌, Bool, true, false, None, IsSome, List, [], ◌∷◌}
+use Rattle.std.specs.Prelude.{length, Result, Ok, Err, IfOk, OnOk, IsErrOf, is_err}
 use Rattle.lsvd_base.specs.declared.entry.Entry.{Entry}
 use Rattle.lsvd_base.specs.Limits.{may_transfer}
 use Rattle.lsvd_base.specs.Range.{is_in_range}
@@ -23,8 +23,10 @@ use Rattle.vol_core.specs.View.{acknowledged_checkpoint, last_object, log_entrie
 use Rattle.vol_core.specs.View.{volume_disk, volume_geometry, volume_uuid}
 use Rattle.volume_owner.specs.declared.error.OwnerError.{OwnerError}
 use Rattle.volume_owner.specs.declared.error.OwnerError.TheVariants.{Range}
+use Rattle.volume_owner.specs.declared.draining.Drained.{Drained}
 use Rattle.volume_owner.specs.declared.reading.SectorsRead.{SectorsRead}
 use Rattle.volume_owner.specs.Acts.{moment_of, IsMadeOfActs, MakesStep}
+use Rattle.volume_owner.specs.Tally.{IsTally}
 use Rattle.volume_owner.specs.Errors.{is_eio}
 use Rattle.volume_owner.specs.History.{GoesOn}
 use Rattle.volume_owner.specs.Owner.{most_of_call}
@@ -134,11 +136,15 @@ pub record FlushOf {R : Type 0} (state : R → ReceiptState) (result : Result �
   pub count : IfOk result (λ count. IsLengthOf count new.volume)
   pub durable : OnOk result (IsDurable new.volume)
 
--- What a drain is: nothing is added, and the volume is drained where the history's length is answered.
-pub record DrainOf {R : Type 0} (state : R → ReceiptState) (result : Result ℕ OwnerError) (old new : SteppedVolume)
+-- What a drain is: nothing is added, and where it is answered, the volume is drained. The answer has the history's length, and
+-- how many objects were removed.
+pub record DrainOf {R : Type 0} (state : R → ReceiptState) (result : Result Drained OwnerError) (old new : SteppedVolume)
     (old_store new_store : StoreState) : Type 0 where
   pub call : IsCall state most_of_call [] (is_eio result) old new old_store new_store
-  pub count : IfOk result (λ count. IsLengthOf count new.volume)
+  pub count : IfOk result (λ drained. IsLengthOf drained.entries new.volume)
+  pub removed : IfOk result (λ drained.
+      IsTally state 0 drained.removed (moment_of old old_store) (moment_of new new_store))
+  pub few : IfOk result (λ drained. drained.removed ≤ 2 ^ 37)
   pub drained : OnOk result (IsDrained new.volume)
   pub in_range : IsErrOf result Range → ⊥
 

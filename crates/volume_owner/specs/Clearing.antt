@@ -29,6 +29,11 @@ abbrev pub NoneIfNot : (has_removed : Bool) → VolumeState → Type 0
 NoneIfNot true volume = Unit {0}
 NoneIfNot false volume = HasNoneToRemove volume
 
+-- how many that is
+abbrev pub count_of_removed : (has_removed : Bool) → ℕ
+count_of_removed true = 1
+count_of_removed false = 0
+
 -- how many steps the helps of a drain make at most, and its removals
 abbrev pub most_of_helps : ℕ
 most_of_helps = 2 ^ 36

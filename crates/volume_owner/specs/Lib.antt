@@ -1,6 +1,7 @@
 pub mod Owner
 pub mod History
 pub mod Acts
+pub mod Tally
 pub mod Calls
 pub mod Standing
 pub mod Errors

@@ -63,9 +63,9 @@ copying_in told.Nothing = Ok None
 copying_in told.Busy = Ok None
 copying_in reply = Err errors.OutOfMemory
 
--- of a seal of what was copied
-abbrev pub turn_in : {R : Type 0} → Reply R → Result Turn OwnerError
-turn_in (told.Sealed number) = Ok Did
-turn_in (told.NotSealed copied seal_refusals.NotPlanned) = Ok Idle
-turn_in (told.NotSealed copied seal_refusals.Busy) = Ok Idle
-turn_in reply = Err errors.OutOfMemory
+-- of a seal of so many sectors that were copied
+abbrev pub turn_in : {R : Type 0} → (sectors : ℕ) → Reply R → Result Turn OwnerError
+turn_in sectors (told.Sealed number) = Ok (Did sectors)
+turn_in sectors (told.NotSealed copied seal_refusals.NotPlanned) = Ok Idle
+turn_in sectors (told.NotSealed copied seal_refusals.Busy) = Ok Idle
+turn_in sectors reply = Err errors.OutOfMemory

@@ -1,11 +1,13 @@
 ghost use Rattle.std.specs.Prelude.{◌≡◌, ◌+◌, ◌<◌, ◌≤◌, [], IfOk, OnOk, IsErrOf, IsOkUnless};
 ghost use Rattle.vol_core.specs.declared.event.Event.TheVariants as events;
 ghost use Rattle.vol_core.specs.Shows.{max_number};
-ghost use Rattle.vol_core.specs.View.{objects_on_way, volume_disk};
+ghost use Rattle.vol_core.specs.View.{objects_on_way, unsealed_entries, volume_disk};
 ghost use Rattle.volume_owner.specs.Owner.{IsIdle};
-ghost use Rattle.volume_owner.specs.Acts.{MakesStep};
+ghost use Rattle.volume_owner.specs.Acts.{moment_of, MakesStep};
+ghost use Rattle.volume_owner.specs.Tally.{IsTally};
 ghost use Rattle.volume_owner.specs.Calls.{MakesSteps, IsCall};
 ghost use Rattle.volume_owner.specs.Clearing.{AwaitsCheckpoint, HasAllPut};
+ghost use Rattle.volume_owner.specs.Collecting.{NeedsNoCopy};
 ghost use Rattle.volume_owner.specs.Errors.{is_eio};
 ghost use Rattle.volume_owner.specs.Helping.{work_of, most_work, HasHelped, IsTaken};
 
@@ -29,8 +31,12 @@ pub(crate) fn help<D: Disk, R: Receipt, S: Store<Receipt = R>>(
     requires idle { IsIdle volume.old.volume }
     ensures help { IsCall R.state 2 [] (is_eio result) volume.old volume.new (S.state store.old)
         (S.state store.new) }
+    ensures tally { OnOk result (IsTally R.state 0 0 (moment_of volume.old (S.state store.old))
+        (moment_of volume.new (S.state store.new))) }
     ensures less { IfOk result (λ has_helped. HasHelped has_helped volume.old.volume volume.new.volume) }
     ensures put { AwaitsCheckpoint volume.old.volume → OnOk result (HasAllPut volume.new.volume) }
+    ensures victims { unsealed_entries volume.old.volume ≡ [] → NeedsNoCopy volume.old.volume
+        → NeedsNoCopy volume.new.volume }
     ensures work { work_of volume.old.volume ≤ most_work }
     ensures error { IsErrOf result OwnerError.Range → ⊥ }
     ensures idle { IsIdle volume.new.volume }
@@ -55,8 +61,11 @@ fn put<D: Disk, R: Receipt, S: Store<Receipt = R>>(
     requires job { IsTaken job volume.old.volume }
     ensures call { IsCall R.state 1 [] (is_eio result) volume.old volume.new (S.state store.old)
         (S.state store.new) }
+    ensures tally { OnOk result (IsTally R.state 0 0 (moment_of volume.old (S.state store.old))
+        (moment_of volume.new (S.state store.new))) }
     ensures less { OnOk result (work_of volume.new.volume < work_of volume.old.volume) }
     ensures put { AwaitsCheckpoint volume.old.volume → OnOk result (HasAllPut volume.new.volume) }
+    ensures victims { NeedsNoCopy volume.old.volume → NeedsNoCopy volume.new.volume }
     ensures error { IsErrOf result OwnerError.Range → ⊥ }
     ensures idle { IsIdle volume.new.volume }
 {
@@ -80,6 +89,8 @@ fn seal<D: Disk, R: Receipt>(volume: &mut Volume<D, R>) -> Result<bool, OwnerErr
     requires none { objects_on_way volume.old.volume ≡ [] }
     ensures step { MakesStep R.state events.Seal [] volume.old volume.new }
     ensures steps { MakesSteps 1 [] volume.old volume.new }
+    ensures victims { unsealed_entries volume.old.volume ≡ [] → NeedsNoCopy volume.old.volume
+        → NeedsNoCopy volume.new.volume }
     ensures less { IfOk result (λ has_sealed. HasHelped has_sealed volume.old.volume volume.new.volume) }
     ensures error { IsOkUnless result OwnerError.OutOfMemory }
     ensures faults { (volume_disk volume.new.volume).faults ≡ (volume_disk volume.old.volume).faults }

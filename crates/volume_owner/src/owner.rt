@@ -4,10 +4,11 @@ ghost use Rattle.lsvd_base.specs.Limits.{is_within_limits};
 ghost use Rattle.vol_core.specs.View.{volume_geometry, volume_uuid};
 ghost use Rattle.volume_owner.specs.Owner.{IsIdle, max_steps};
 ghost use Rattle.volume_owner.specs.Calls.{EnterOf, FlushOf, DrainOf, ReadOf};
-ghost use Rattle.volume_owner.specs.Collecting.{CollectOf};
+ghost use Rattle.volume_owner.specs.Collecting.{CollectOf, CollectAllOf};
 
 use crate::collecting::{Turn, collect};
-use crate::draining::drain;
+use crate::collecting_all::{Collected, collect_all};
+use crate::draining::{Drained, drain};
 use crate::entering::enter;
 use crate::error::OwnerError;
 use crate::reading::{SectorsRead, flush, read};
@@ -24,7 +25,8 @@ use vol_core::Volume;
 /// A volume with one owner, who makes whole requests of it. The store is lent for each.
 ///
 /// Each call has the condition that the volume made 2^59 steps at most since it was mounted, and itself makes
-/// 2^40 at most. So who asks `steps` before each request has room for several calls.
+/// 2^40 at most, but `collect_all`, which makes 2^42. So who asks `steps` before each request has room for
+/// several calls.
 #[derive(Drop)]
 pub struct Owner<D: Disk, R: Receipt> {
     volume: Volume<D, R>,
@@ -98,7 +100,7 @@ impl<D: Disk, R: Receipt> Owner<D, R> {
     }
 
     /// One turn of a collection: copies live sectors out of objects of which few are live, and seals them as
-    /// the next object. Answers whether one was sealed.
+    /// the next object. Answers how many were copied.
     ///
     /// What is live is told by the objects that are acknowledged. So a turn that comes before the last copy
     /// is would copy the same sectors again: let it be put first, as the next full batch or a drain does.
@@ -116,9 +118,28 @@ impl<D: Disk, R: Receipt> Owner<D, R> {
         collect(alloc, &mut self.volume, store)
     }
 
+    /// A whole collection: drains, makes turns and puts their copies until there is nothing to copy, and
+    /// drains again, which removes the objects that the copies replaced. What the volume holds stays. Answers
+    /// how many sectors were copied, and how many objects were removed. A plan of a copy that is out is given
+    /// up first.
+    ///
+    /// `Eio` comes where a call of the disk or of the store failed, which that counted, and `OutOfMemory`
+    /// where memory ran out, or where 2^36 copies were made, or 2^37 objects removed, and there may be more;
+    /// `Range` never comes. After an error some of this may be done, and the call may be made again.
+    pub fn collect_all<S: Store<Receipt = R>>(
+        &mut self,
+        alloc: Global,
+        store: &mut S,
+    ) -> Result<Collected, OwnerError>
+        requires { self.old.steps ≤ max_steps }
+        ensures { CollectAllOf R.state result self.old self.new (S.state store.old) (S.state store.new) }
+    {
+        collect_all(alloc, &mut self.volume, store)
+    }
+
     /// Seals and puts until no entry is unsealed and each object is acknowledged, seals and puts a checkpoint
     /// where the newest object is none, removes each object that no mount needs, and then flushes. Answers
-    /// how many entries the history has. A server calls it before it ends.
+    /// how many entries the history has, and how many objects were removed. A server calls it before it ends.
     ///
     /// `Eio` comes where a call of the disk or of the store failed, which that counted, and `OutOfMemory`
     /// where memory ran out, or where 2^37 objects were removed and there may be more; `Range` never comes.
@@ -127,7 +148,7 @@ impl<D: Disk, R: Receipt> Owner<D, R> {
         &mut self,
         alloc: Global,
         store: &mut S,
-    ) -> Result<u64, OwnerError>
+    ) -> Result<Drained, OwnerError>
         requires { self.old.steps ≤ max_steps }
         ensures { DrainOf R.state result self.old self.new (S.state store.old) (S.state store.new) }
     {

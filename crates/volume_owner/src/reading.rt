@@ -4,6 +4,7 @@ ghost use Rattle.vol_core.specs.Shows.{max_number};
 ghost use Rattle.volume_owner.specs.Owner.{IsIdle, max_steps};
 ghost use Rattle.volume_owner.specs.Calls.{FlushOf, HasNoneToRemove, ReadOf};
 ghost use Rattle.volume_owner.specs.Clearing.{HasAllPut};
+ghost use Rattle.volume_owner.specs.Collecting.{NeedsNoCopy};
 ghost use Rattle.volume_owner.specs.Helping.{work_of};
 
 use crate::error::OwnerError;
@@ -64,6 +65,7 @@ pub(crate) fn flush<D: Disk, R: Receipt>(volume: &mut Volume<D, R>) -> Result<u6
     ensures work { work_of volume.new.volume ≡ work_of volume.old.volume }
     ensures put { HasAllPut volume.old.volume → HasAllPut volume.new.volume }
     ensures none { HasNoneToRemove volume.old.volume → HasNoneToRemove volume.new.volume }
+    ensures victims { NeedsNoCopy volume.old.volume → NeedsNoCopy volume.new.volume }
     ensures idle { IsIdle volume.new.volume }
 {
     let count = count_of(volume.step(Event::Flush));

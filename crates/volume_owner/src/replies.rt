@@ -155,12 +155,12 @@ pub(crate) fn copying_of<R: Receipt>(reply: Reply<R>) -> Result<Option<GcPlan<R>
     }
 }
 
-/// Whether a reply tells that what was copied was sealed, or that it was refused.
-pub(crate) fn turn_of<R: Receipt>(reply: Reply<R>) -> Result<Turn, OwnerError>
-    ensures { result ≡ turn_in reply }
+/// Whether a reply tells that so many sectors that were copied were sealed, or that they were refused.
+pub(crate) fn turn_of<R: Receipt>(sectors: u64, reply: Reply<R>) -> Result<Turn, OwnerError>
+    ensures { result ≡ turn_in sectors reply }
 {
     match reply {
-        Reply::Sealed(_) => Ok(Turn::Did),
+        Reply::Sealed(_) => Ok(Turn::Did { sectors }),
         Reply::NotSealed { copied, why } => {
             drop(copied);
             match why {

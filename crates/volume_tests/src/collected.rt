@@ -43,7 +43,8 @@ pub fn tell_collections(rt: &HostRuntime) -> Result<(), TestError> {
     let told = tell_failing_runs(rt, &wanted);
     drop(wanted);
     told?;
-    tell_full(rt)
+    tell_full(rt)?;
+    tell_whole(rt)
 }
 
 // Makes the runs of which a call fails, after which the same copy is wanted.
@@ -106,15 +107,42 @@ fn tell_waiting(
     fill(rt.alloc(), owner, store)?;
     tell_drain(rt, owner, store)?;
     for _ in 0..MOST_ON_WAY {
-        if turn(rt.alloc(), owner, store)? != Ok(Turn::Did) {
+        let Ok(Turn::Did { .. }) = turn(rt.alloc(), owner, store)? else {
             return Err(TestError::Refused);
-        }
+        };
     }
     println!(rt; "{MOST_ON_WAY} copies were sealed")?;
     tell_turn(rt, owner, store)?;
     tell_image(rt, owner, store)?;
     tell_drain(rt, owner, store)?;
     tell_image(rt, owner, store)
+}
+
+// Makes two whole collections, of which the second finds nothing to copy.
+fn tell_whole(rt: &HostRuntime) -> Result<(), TestError> {
+    head(rt, "# Whole collections")?;
+    let (mut owner, mut store) = new_owner(rt.alloc(), &[])?;
+    let told = tell_collected(rt, &mut owner, &mut store);
+    drop(owner);
+    drop(store);
+    told
+}
+
+fn tell_collected(
+    rt: &HostRuntime,
+    owner: &mut MemOwner,
+    store: &mut Faulty,
+) -> Result<(), TestError> {
+    fill(rt.alloc(), owner, store)?;
+    for _ in 0..2 {
+        if MOST < owner.steps() {
+            return Err(TestError::Refused);
+        }
+        let collected = owner.collect_all(rt.alloc(), store).map_err(error_of)?;
+        println!(rt; "collected: {collected:?}")?;
+        tell_image(rt, owner, store)?;
+    }
+    tell_drain(rt, owner, store)
 }
 
 fn fill(alloc: Global, owner: &mut MemOwner, store: &mut Faulty) -> Result<(), TestError> {

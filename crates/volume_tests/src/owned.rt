@@ -141,9 +141,9 @@ pub fn drain(
     if MOST < owner.steps() {
         return Err(TestError::Refused);
     }
-    let count = owner.drain(alloc, store).map_err(error_of)?;
+    let drained = owner.drain(alloc, store).map_err(error_of)?;
     let names = store.list(alloc, owner.uuid())?;
-    Ok((count, names.as_slice().len()))
+    Ok((drained.entries, names.as_slice().len()))
 }
 
 fn tell_image(rt: &HostRuntime, owner: &mut MemOwner, store: &mut Faulty) -> Result<(), TestError> {

@@ -45,6 +45,7 @@ impl PlainVolume {
             alloc,
             owned.as_slice(),
             payloads.as_slice(),
+            volume.held.as_slice(),
             frontier,
             volume.geometry.batch,
         )

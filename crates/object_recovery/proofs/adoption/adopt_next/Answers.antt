@@ -1,4 +1,4 @@
-use Rattle.std.proofs.Common.{◌≡◌, ◌+◌, Some, subst, sym, ap, ◌∙◌, refl, arith}
+use Rattle.std.proofs.Common.{◌≡◌, Some, subst, sym, ap, ◌∙◌, refl, arith}
 use Rattle.lsvd_objstore.specs.Store.{Finds}
 use Rattle.object_format.specs.declared.expected.Expected.{Expected}
 use Rattle.object_stream.specs.Replay.{object_name}

@@ -1,8 +1,8 @@
-use Rattle.std.proofs.Common.{◌≡◌, ℕ, ◌+◌, ◌<◌, ◌≤◌, Some, None, List, [], ◌∷◌, ◌++◌, length, take, drop, refl, sym, ◌∙◌, ap}
+use Rattle.std.proofs.Common.{◌≡◌, ℕ, ◌<◌, List, [], ◌++◌, length, take, drop, refl, sym, ◌∙◌, ap}
 use Rattle.std.proofs.Common.{subst}
 use Rattle.std.proofs.Common.{arith, false}
 use Rattle.std.specs.Prelude.{IfSome}
-use Rattle.std.specs.List.{All, Contains}
+use Rattle.std.specs.List.{Contains}
 use Rattle.std.specs.Option.{IsSome}
 use Rattle.std.proofs.lemmas.Bool.Decides.{nat_tests}
 use Rattle.std.proofs.lemmas.List.{take-append-le, take_all}
@@ -10,7 +10,7 @@ use Rattle.std.proofs.lemmas.List.Elements.{All-contains}
 use Rattle.extent_map.specs.declared.extent.Extent.{Extent}
 use Rattle.lsvd_names.specs.Names.{numbered_name}
 use Rattle.lsvd_fault.specs.Faults.{Counts}
-use Rattle.lsvd_objstore.specs.Objects.{Objects, Lists}
+use Rattle.lsvd_objstore.specs.Objects.{Lists}
 use Rattle.lsvd_objstore.specs.Store.{StoreState}
 use Rattle.object_format.specs.declared.expected.Expected.{Expected}
 use Rattle.object_table.specs.Table.{IsNewest}

@@ -60,7 +60,8 @@ returns g c =
       };
       has_names = is.found.names;
       told = λ tells.
-          recovered_from c.args.uuid c.args.geometry told recovered.log recovered.checkpoint (is.found.told tells);
+          recovered_from c.args.uuid c.args.geometry told recovered.log recovered.checkpoint (is.found.told tells)
+          (is.found.holds tells);
       why = λ tells. tt;
       no_refusal = λ tells. tt;
       no_fault = tt;

@@ -8,7 +8,7 @@ use Rattle.volume_commands.proofs.clients.drain.Goals as goal
 pub returns-in-Ok : goal.returns-in-Ok
 returns-in-Ok g c = record {
   drains =
-      drains_all g.S.Receipt.Receipt.state c.in-Ok.entries c.args.volume c.new-owner.result _ c.into_volume-volume.result
+      drains_all g.S.Receipt.Receipt.state c.in-Ok.drained c.args.volume c.new-owner.result _ c.into_volume-volume.result
       (g.S.Store.state c.args.store.now) (g.S.Store.state c.drain-drained.new.store) c.new-owner.ensures
       c.into_volume-volume.ensures.volume c.in-Ok.ensures;
   refused = λ why is. cc;

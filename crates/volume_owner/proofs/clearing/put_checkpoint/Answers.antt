@@ -1,13 +1,15 @@
-use Rattle.std.proofs.Common.{◌≡◌, Bool, false, [], ap, subst, Err, sym}
-use Rattle.std.specs.Prelude.{Result, OnOk}
+use Rattle.std.proofs.Common.{◌≡◌, Bool, false, [], ap, subst, Err}
 use Rattle.lsvd_objstore.specs.Store.{StoreState}
 use Rattle.vol_core.specs.Volume.{SteppedVolume}
+use Rattle.volume_owner.specs.Acts.{moment_of}
+use Rattle.volume_owner.specs.Tally.{IsTally}
 use Rattle.volume_owner.specs.Calls.{IsCall}
 use Rattle.volume_owner.specs.Clearing.{HasAllPut, IsSealedUp}
 use Rattle.volume_owner.specs.Errors.{is_eio}
 use Rattle.volume_owner.specs.declared.error.OwnerError.{OwnerError}
 use Rattle.volume_owner.specs.declared.error.OwnerError.TheVariants as errors
-use Rattle.volume_owner.proofs.CallLemmas.{quiet_call, call_then, call_ends_none, handed_on, same_eio}
+use Rattle.volume_owner.proofs.CallLemmas.{quiet_call, call_then, call_ends_none, handed_on, none_answered, same_eio}
+use Rattle.volume_owner.proofs.TallyLemmas.{tally_then}
 use Rattle.volume_owner.proofs.clearing.put_checkpoint.Goals as goal
 
 pub returns-in_err-help : goal.returns-in_err-help
@@ -29,7 +31,12 @@ returns-in_err-help g c =
           (subst (λ b. IsCall state 4 [] b old new first second) (same_eio Bool (Unit {0}) error)
           (call_then state 2 2 [] (is_eio {T = Bool} (Err error)) old mid new first first second
           (quiet_call state 2 [] old mid first (sealed.acts first) sealed.steps sealed.faults) helped.help));
-      put = subst (λ (r : Result (Unit {0}) OwnerError). OnOk r (HasAllPut new.volume)) (sym is) tt;
+      tally = none_answered result error (IsTally state 0 0 (moment_of old first) (moment_of new second)) is;
+      put = none_answered result error (HasAllPut new.volume) is;
+      victims = λ needs. (
+          let up = subst (λ b. IsSealedUp b mid.volume) c.if-branch.true sealed.sealed in
+          helped.victims up.unsealed (sealed.victims needs)
+          );
       error = λ range. (let same : error ≡ errors.Range = cc in helped.error (ap Err same));
       idle = helped.idle;
     }
@@ -44,11 +51,16 @@ returns-in_ok-help g c =
     let second : StoreState = g.S.Store.state c.help.new.store in
     let sealed = c.in_ok-seal_checkpoint.ensures in
     let helped = c.in_ok-help.ensures in
+    let up = subst (λ b. IsSealedUp b mid.volume) c.if-branch.true sealed.sealed in
     record {
       call =
           call_then state 2 2 [] false old mid new first first second
           (quiet_call state 2 [] old mid first (sealed.acts first) sealed.steps sealed.faults) helped.help;
-      put = helped.put (subst (λ b. IsSealedUp b mid.volume) c.if-branch.true sealed.sealed);
+      tally =
+          tally_then state 0 0 0 0 (moment_of old first) (moment_of mid first) (moment_of new second) (sealed.tally first)
+          helped.tally;
+      put = helped.put up;
+      victims = λ needs. helped.victims up.unsealed (sealed.victims needs);
       error = λ range. cc;
       idle = helped.idle;
     }

@@ -1,4 +1,4 @@
-use Rattle.std.proofs.Common.{arith, Bool, [], refl, sym, ◌∙◌, subst}
+use Rattle.std.proofs.Common.{arith, Bool, [], refl, sym, ◌∙◌, ap, subst}
 use Rattle.std.specs.Prelude.{Result, IfOk, IsOkUnless}
 use Rattle.vol_core.specs.declared.event.Event.TheVariants as asks
 use Rattle.vol_core.specs.Volume.{SteppedVolume}
@@ -11,6 +11,8 @@ use Rattle.volume_owner.proofs.ReplyLemmas.{seal_alone}
 use Rattle.volume_owner.proofs.StepLemmas.{makes_then, makes_fewer}
 use Rattle.volume_owner.proofs.ClearLemmas.{status_makes, status_faults, status_idle, status_unsealed, status_on_way, status_put}
 use Rattle.volume_owner.proofs.ClearLemmas.{checkpoint_makes, checkpoint_faults, checkpoint_sealed}
+use Rattle.volume_owner.proofs.TallyLemmas.{tally_then, quiet_tally}
+use Rattle.volume_owner.proofs.VictimLemmas.{makes_no_victim, step_needs}
 use Rattle.volume_owner.proofs.clearing.seal_checkpoint.Goals as goal
 
 pub returns-then-is_newest_checkpoint : goal.returns-then-is_newest_checkpoint
@@ -25,6 +27,8 @@ returns-then-is_newest_checkpoint g c =
     record {
       acts = λ store. step_act state asks.Status reply [] old new store of tt refl;
       steps = makes_fewer 1 2 [] old new (omega arith) (status_makes state reply old new of plain shows);
+      tally = λ store. quiet_tally state asks.Status reply 0 old new store of tt refl refl of.step.copying;
+      victims = step_needs state asks.Status reply old new (λ asked is. ap makes_no_victim is) of;
       sealed = status_put state reply old new of plain shows c.requires.unsealed c.requires.none
           (sym c.is_newest_checkpoint.ensures ∙ c.if-is_newest_checkpoint.true);
       error = tt;
@@ -55,6 +59,13 @@ returns g c =
           (step_act state asks.SealCheckpoint back [] mid new store seal tt refl);
       steps = makes_then 1 1 [] old mid new (status_makes state reply old mid of plain shows)
           (checkpoint_makes state back mid new seal seal.was.plain seal.was.shows);
+      tally = λ store.
+          tally_then state 0 0 0 0 (moment_of old store) (moment_of mid store) (moment_of new store)
+          (quiet_tally state asks.Status reply 0 old mid store of tt refl refl of.step.copying)
+          (quiet_tally state asks.SealCheckpoint back 0 mid new store seal tt refl refl seal.step.copying);
+      victims = λ needs.
+          step_needs state asks.SealCheckpoint back mid new (λ asked is. ap makes_no_victim is) seal
+          (step_needs state asks.Status reply old mid (λ asked is. ap makes_no_victim is) of needs);
       sealed = subst (λ (r : Result Bool OwnerError). IfOk r (λ has_sealed. IsSealedUp has_sealed new.volume))
           (sym c.seal_of.ensures) sealed.1;
       error = subst (λ (r : Result Bool OwnerError). IsOkUnless r errors.OutOfMemory) (sym c.seal_of.ensures) (seal_alone back);

@@ -1,8 +1,10 @@
 use Rattle.std.proofs.Common.{arith, ◌≡◌, ◌<◌, Bool, false, [], refl, sym, ◌∙◌, ap, subst, Err}
-use Rattle.std.specs.Prelude.{Result, IfOk, OnOk}
+use Rattle.std.specs.Prelude.{Result, IfOk}
 use Rattle.lsvd_objstore.specs.Store.{StoreState}
 use Rattle.vol_core.specs.declared.event.Event.TheVariants as asks
 use Rattle.vol_core.specs.Volume.{SteppedVolume}
+use Rattle.volume_owner.specs.Acts.{moment_of}
+use Rattle.volume_owner.specs.Tally.{IsTally}
 use Rattle.volume_owner.specs.Calls.{IsCall}
 use Rattle.volume_owner.specs.Clearing.{HasAllPut}
 use Rattle.volume_owner.specs.Errors.{is_eio}
@@ -12,8 +14,11 @@ use Rattle.volume_owner.specs.Helping.{work_of, HasHelped}
 use Rattle.volume_owner.proofs.ActLemmas.{step_act, step_acts}
 use Rattle.volume_owner.proofs.BoundLemmas.{work_bound}
 use Rattle.volume_owner.proofs.CallLemmas.{quiet_call, call_then, call_ends_none, same_eio, memory_alone, memory_no_range}
-use Rattle.volume_owner.proofs.CallLemmas.{handed_on}
-use Rattle.volume_owner.proofs.HelpLemmas.{take_makes, take_faults, take_awaits, handed_job, taken_is, none_taken, helped_as}
+use Rattle.volume_owner.proofs.CallLemmas.{handed_on, answered, none_answered}
+use Rattle.volume_owner.proofs.HelpLemmas.{take_makes, take_faults, take_awaits, take_unsealed, handed_job, taken_is}
+use Rattle.volume_owner.proofs.HelpLemmas.{none_taken, helped_as}
+use Rattle.volume_owner.proofs.TallyLemmas.{tally_then, quiet_tally}
+use Rattle.volume_owner.proofs.VictimLemmas.{makes_no_victim, step_needs}
 use Rattle.volume_owner.proofs.helping.help.Goals as goal
 
 pub put-requires-clause-job : goal.put-requires-clause-job
@@ -50,9 +55,13 @@ returns-in_err-put-in-Some g c =
           (call_then state 1 1 [] failed old mid last first first second
           (quiet_call state 1 [] old mid first (step_act state asks.TakeJob reply [] old mid first of tt refl)
           (take_makes state reply old mid of plain shows) (take_faults state reply old mid of plain shows)) put.call));
+      tally = none_answered c.from_residual.result error
+          (IsTally state 0 0 (moment_of old first) (moment_of last second)) is;
       less =
           subst (λ (r : Result Bool OwnerError). IfOk r (λ has_helped. HasHelped has_helped old.volume last.volume)) (sym is) tt;
-      put = λ awaits. subst (λ (r : Result Bool OwnerError). OnOk r (HasAllPut last.volume)) (sym is) tt;
+      put = λ awaits. none_answered c.from_residual.result error (HasAllPut last.volume) is;
+      victims = λ unsealed needs.
+          put.victims (step_needs state asks.TakeJob reply old mid (λ asked is. ap makes_no_victim is) of needs);
       work = work_bound old.volume plain shows c.requires.idle;
       error = λ range. (let same : error ≡ errors.Range = cc in put.error (ap Err same));
       idle = put.idle;
@@ -78,8 +87,13 @@ returns-in_ok-put-in-Some g c =
           call_then state 1 1 [] false old mid last first first second
           (quiet_call state 1 [] old mid first (step_act state asks.TakeJob reply [] old mid first of tt refl)
           (take_makes state reply old mid of plain shows) (take_faults state reply old mid of plain shows)) put.call;
+      tally =
+          tally_then state 0 0 0 0 (moment_of old first) (moment_of mid first) (moment_of last second)
+          (quiet_tally state asks.TakeJob reply 0 old mid first of tt refl refl of.step.copying) put.tally;
       less = subst (λ w. work_of last.volume < w) taken.1 put.less;
       put = λ awaits. put.put (take_awaits state reply old mid of plain shows awaits);
+      victims = λ unsealed needs.
+          put.victims (step_needs state asks.TakeJob reply old mid (λ asked is. ap makes_no_victim is) of needs);
       work = work_bound old.volume plain shows c.requires.idle;
       error = λ range. cc;
       idle = put.idle;
@@ -122,11 +136,19 @@ returns-in-None g c =
           (take_makes state reply old mid of plain shows) (take_faults state reply old mid of plain shows))
           (quiet_call state 1 [] mid last first
           (step_acts state asks.Seal [] mid last first (λ volume s. tt) sealed.step) sealed.steps sealed.faults));
+      tally = answered c.seal.result (IsTally state 0 0 (moment_of old first) (moment_of last first))
+          (tally_then state 0 0 0 0 (moment_of old first) (moment_of mid first) (moment_of last first)
+          (quiet_tally state asks.TakeJob reply 0 old mid first of tt refl refl of.step.copying)
+          (quiet_tally state asks.Seal sealed.step.reply 0 mid last first sealed.step.step tt refl refl
+          sealed.step.step.step.copying));
       less = helped_as c.seal.result old.volume mid.volume last.volume left.2 sealed.less;
       put = λ awaits.
           (let one = (take_awaits state reply old mid of plain shows awaits).on_way in
           let bad : ⊥ = cc (left.0, one) in
           absurd bad);
+      victims = λ unsealed needs.
+          sealed.victims (take_unsealed state reply old mid of plain shows unsealed)
+          (step_needs state asks.TakeJob reply old mid (λ asked is. ap makes_no_victim is) of needs);
       work = work_bound old.volume plain shows c.requires.idle;
       error = memory_no_range c.seal.result sealed.error;
       idle = sealed.idle;

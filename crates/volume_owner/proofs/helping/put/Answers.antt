@@ -12,6 +12,8 @@ use Rattle.volume_owner.proofs.ActLemmas.{step_act, done_acts, failed_acts, no_w
 use Rattle.volume_owner.proofs.CallLemmas.{put_call, failed_put_call, store_no_range}
 use Rattle.volume_owner.proofs.HelpLemmas.{done_makes, done_faults, done_leaves, done_puts}
 use Rattle.volume_owner.proofs.HelpLemmas.{failed_makes, failed_faults, failed_idle}
+use Rattle.volume_owner.proofs.TallyLemmas.{done_tally}
+use Rattle.volume_owner.proofs.VictimLemmas.{makes_no_victim, step_needs}
 use Rattle.volume_owner.proofs.helping.put.Goals as goal
 
 pub returns-in-Ok : goal.returns-in-Ok
@@ -40,8 +42,11 @@ returns-in-Ok g c =
           refl taken.named put.put put.count
           (done_makes state job receipt reply old new of plain shows taken named)
           (done_faults state job receipt reply old new of plain shows taken named);
+      tally =
+          done_tally state job reply old new first second receipt taken put.put (put.asked (λ is. cc)) put.count of;
       less = left.1;
       put = done_puts state job receipt reply old new of plain shows taken named;
+      victims = step_needs state (asks.JobDone job receipt) reply old new (λ asked is. ap makes_no_victim is.1) of;
       error = λ range. cc;
       idle = left.0;
     }
@@ -75,8 +80,10 @@ returns-in-Err g c =
           (λ is. put.failed (ap Err is)) (λ is. put.unchanged (ap Err is)) put.count
           (failed_makes state job reply old new of plain shows taken)
           (failed_faults state job reply old new of plain shows taken));
+      tally = tt;
       less = tt;
       put = λ awaits. tt;
+      victims = step_needs state (asks.JobFailed job) reply old new (λ asked is. ap makes_no_victim is.1) of;
       error = λ range. (let same : of_store error ≡ errors.Range = cc in store_no_range error same);
       idle = failed_idle state job reply old new of plain shows taken;
     }

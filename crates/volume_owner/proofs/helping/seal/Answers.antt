@@ -6,6 +6,7 @@ use Rattle.volume_owner.specs.declared.error.OwnerError.TheVariants as errors
 use Rattle.volume_owner.specs.Helping.{HasHelped}
 use Rattle.volume_owner.proofs.ReplyLemmas.{seal_alone}
 use Rattle.volume_owner.proofs.HelpLemmas.{seal_makes, seal_faults, sealed_leaves}
+use Rattle.volume_owner.proofs.VictimLemmas.{seal_needs}
 use Rattle.volume_owner.proofs.helping.seal.Goals as goal
 
 pub returns : goal.returns
@@ -21,6 +22,7 @@ returns g c =
     record {
       step = record { reply = reply; step = of; entered = refl };
       steps = seal_makes state reply old new of plain shows;
+      victims = seal_needs state reply old new of;
       less = subst (λ (r : Result Bool OwnerError). IfOk r (λ has_sealed. HasHelped has_sealed old.volume new.volume))
           (sym c.seal_of.ensures) left.1;
       error = subst (λ (r : Result Bool OwnerError). IsOkUnless r errors.OutOfMemory) (sym c.seal_of.ensures) (seal_alone reply);

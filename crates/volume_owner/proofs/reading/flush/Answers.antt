@@ -1,8 +1,10 @@
-use Rattle.std.proofs.Common.{refl, sym, ◌∙◌, subst}
+use Rattle.std.proofs.Common.{refl, sym, ◌∙◌, ap, subst}
 use Rattle.lsvd_fault.specs.Faults.{Counts}
+use Rattle.vol_core.specs.declared.event.Event.TheVariants as asks
 use Rattle.vol_core.specs.Volume.{SteppedVolume}
 use Rattle.volume_owner.proofs.ReadLemmas.{flush_makes, flush_idle, flush_work, flush_put, flush_none}
 use Rattle.volume_owner.proofs.ReadLemmas.{flushed_is, not_flushed, flushed_reply}
+use Rattle.volume_owner.proofs.VictimLemmas.{makes_no_victim, step_needs}
 use Rattle.volume_owner.proofs.reading.flush.Goals as goal
 
 pub returns-in-Some : goal.returns-in-Some
@@ -26,6 +28,7 @@ returns-in-Some g c =
       };
       work = flush_work state reply old new of plain shows;
       put = flush_put state reply old new of plain shows;
+      victims = step_needs state asks.Flush reply old new (λ asked is. ap makes_no_victim is) of;
       none = flush_none state reply old new of plain shows c.is_volume.ensures.order.uploads;
       idle = flush_idle state reply old new of plain shows c.requires.idle;
     }
@@ -50,6 +53,7 @@ returns-in-None g c =
       };
       work = flush_work state reply old new of plain shows;
       put = flush_put state reply old new of plain shows;
+      victims = step_needs state asks.Flush reply old new (λ asked is. ap makes_no_victim is) of;
       none = flush_none state reply old new of plain shows c.is_volume.ensures.order.uploads;
       idle = flush_idle state reply old new of plain shows c.requires.idle;
     }

@@ -1,0 +1,12 @@
+use Rattle.std.proofs.Common.{subst, sym}
+use Rattle.std.specs.List.{All}
+use Rattle.object_uploads.proofs.NamesKept.{IsNamed}
+use Rattle.object_uploads.proofs.UploadsKept.{uploads_changed}
+use Rattle.object_uploads.proofs.uploads.Uploads.hold.Goals as goal
+
+pub invariant_of-self : goal.invariant_of-self
+invariant_of-self g c =
+    let own = c.self.inside in
+    let e = c.hold.ensures in
+    uploads_changed own.uuid own.sectors own.window own.queue c.hold.new.self c.self.invariant e.rest e.known
+    (subst (All (IsNamed own.uuid)) (sym e.receipts) c.self.invariant.known.named)
