@@ -1,5 +1,5 @@
 -- Commands that get their options.
-use Rattle.std.proofs.Common.{◌≡◌, ◌∙◌, ◌+◌, ◌<◌, ◌≤◌, ℕ, List, ap, drop, get_or, length, map, refl, sym}
+use Rattle.std.proofs.Common.{◌≡◌, ◌∙◌, ◌+◌, ◌<◌, ◌≤◌, ℕ, List, ap, ap₂, codes, drop, get_or, length, map, refl, sym}
 use Rattle.std.specs.Prelude.{false}
 use Rattle.std.proofs.lemmas.List.{at_drop_all, at_drop_more}
 use Rattle.clap.specs.Built.{AddsArg}
@@ -8,8 +8,10 @@ use Rattle.clap.specs.Walk.{Text, rule_of}
 use Rattle.clap.specs.declared.builder.arg.Arg.{Arg}
 use Rattle.clap.specs.declared.builder.command.Command.{Command}
 use Rattle.clap.specs.declared.builder.command.Command.TheViews.{out-Command}
+use Rattle.command_line.specs.Churn.{rule_of_place}
 use Rattle.command_line.specs.Commands.{AddsOptions, option_of, with_options}
 use Rattle.command_line.specs.Options.{CommandOption, rule_for}
+use Rattle.command_line.specs.Program.{churn}
 use Rattle.command_line.specs.declared.options.OptionText.{OptionText}
 
 -- the command with the options that are left, before the next is added and after
@@ -37,3 +39,12 @@ pub shape_with : (name : Text) (options : List CommandOption) (start new : Comma
     → AddsOptions start options new → shape_of new ≡ (with_options (new_app name) options).top
 shape_with name options start new is adds =
     ap (λ (app : App). app.top) (adds.app ∙ ap (λ (app : App). with_options app options) is)
+
+-- a new command `churn` has the words that it gets, each at its place
+pub shape_with_places : (start middle new : Command) (steps seed : Arg) → app_of start ≡ new_app (codes "churn")
+    → AddsArg start steps middle → AddsArg middle seed new → steps.global ≡ false → seed.global ≡ false
+    → rule_of steps ≡ rule_of_place (codes "steps") → rule_of seed ≡ rule_of_place (codes "seed") → shape_of new ≡ churn
+shape_with_places start middle new steps seed begun first second first_local second_local steps_are seed_is =
+    let one : app_of middle ≡ with_rule (new_app (codes "churn")) (rule_of_place (codes "steps")) =
+    first.shape first_local ∙ ap₂ with_rule begun steps_are in
+    ap (λ (app : App). app.top) (second.shape second_local ∙ ap₂ with_rule one seed_is)

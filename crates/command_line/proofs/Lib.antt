@@ -13,3 +13,4 @@ pub mod Taken
 pub mod Turns
 pub mod Spelled
 pub mod Mistakes
+pub mod Places

@@ -19,7 +19,8 @@ use Rattle.clap.specs.declared.error.kind.ErrorKind.TheVariants.{MissingSubcomma
 use Rattle.clap.specs.Faults.{check_fault, defaults_fault, entered_fault, level_fault, settle_fault, walk_fault}
 use Rattle.clap.proofs.OnLiterals.{clap_on_literals}
 use Rattle.command_line.specs.CommandLine.{AsksForHelp, IsHelpOption, IsVersionOption, Line, Spells, commands, create, faults_of}
-use Rattle.command_line.specs.CommandLine.{replay, serve}
+use Rattle.command_line.specs.CommandLine.{churn, replay, serve}
+use Rattle.command_line.specs.Churn.{churn_value}
 use Rattle.command_line.specs.Create.{create_options}
 use Rattle.command_line.specs.Options.{AreOptionsOf, Given, MayEnd, option_words, value_of}
 use Rattle.command_line.specs.Program.{bare, lsvdctl}
@@ -28,6 +29,8 @@ use Rattle.command_line.specs.Serve.{serve_options}
 use Rattle.command_line.proofs.Given.{HasNames, given_is_found, given_is_taken, has_names}
 use Rattle.command_line.proofs.Leaves.{Reads, leaf_faults}
 use Rattle.command_line.proofs.Levels.{IsByFirst, next_refused, stopped_fault, stopped_walk}
+use Rattle.command_line.proofs.Places.{churn_faults, numbers_are_found, numbers_are_taken, refused_or_numbers}
+use Rattle.command_line.proofs.Places as places
 use Rattle.command_line.proofs.Refusals.{HasRequestsOnly, IsRefusal, first_refused, refusal_first, trailing_refused}
 use Rattle.command_line.proofs.Rules.{Known, rules_for}
 use Rattle.command_line.proofs.Taken.{refused_or_read}
@@ -170,6 +173,31 @@ module _ (command : Text) (known : Known) (has : Has command known) where
   after_quiet : (words : List Text) → faults_after command known words ≡ [] → faults_of (command ∷ words) ≡ []
   after_quiet words quiet = has.stops words ∙ has.quiet words quiet
 
+-- ---- the words after `churn`
+
+churn_stops : (words : List Text) → faults_of (codes "churn" ∷ words) ≡ top_at [] (stopped (codes "churn") words)
+unfolding faults_of lsvdctl walk_fault walked
+churn_stops words = top_stopped (codes "churn") words
+
+churn_entered : (words : List Text) → entered_fault app (Some (codes "churn", words)) ≡ churn_faults words
+unfolding lsvdctl
+churn_entered words = refl
+
+after_churn_holds : (P : Kinds → Type 0) → IsByFirst P → (words : List Text) → P (churn_faults words)
+    → P (faults_of (codes "churn" ∷ words))
+after_churn_holds P by_first words holds =
+    subst P (sym (churn_stops words)) (by_first _ _ (subst P (sym (churn_entered words)) holds))
+
+-- where the command takes the words, so does the program
+churn_quiet : (words : List Text) → churn_faults words ≡ [] → top_at [] (stopped (codes "churn") words) ≡ []
+unfolding faults_of lsvdctl walk_fault walked defaults_fault clap_on_literals
+churn_quiet words quiet = rw quiet refl
+
+churn_meets : (words : List Text) → subcommand_of lsvdctl (codes "churn" ∷ words)
+    ≡ Some (codes "churn", rows_after places.rules [] words)
+unfolding lsvdctl walked
+churn_meets words = ap (entered app) (stopped_at (codes "churn") words)
+
 -- ---- other first words
 
 trailing_word : (next : Text) (more : List Text) → IsRefusal (top_from trailing (next ∷ more))
@@ -193,10 +221,10 @@ first_word word rest none other =
     (first_refused app.top (names_of app) word top_has none other)
 
 no_command : (word : Text) → bytes_eq (codes "replay") word ≡ false → bytes_eq (codes "create") word ≡ false
-    → bytes_eq (codes "serve") word ≡ false
+    → bytes_eq (codes "serve") word ≡ false → bytes_eq (codes "churn") word ≡ false
     → subcommand_met (names_of app) idle word ≡ None
 unfolding lsvdctl
-no_command word replays creates serves = rw (replays, creates, serves) refl
+no_command word replays creates serves churns = rw (replays, creates, serves, churns) refl
 
 top_first : (word : Text) (rest : List Text) → subcommand_met (names_of app) idle word ≡ None → bytes_eq word (codes "--") ≡ false
     → IsRefusal (faults_of (word ∷ rest))
@@ -252,29 +280,37 @@ serve_line words = elim (given_or_refused (codes "serve") serve_options has_serv
   | inr refused ↦ inr refused
 ]
 
+churn_line : (words : List Text) → IsLine (codes "churn" ∷ words)
+churn_line words = elim (refused_or_numbers words) [
+  | inl refused ↦ inr (after_churn_holds IsRefusal refusal_first words refused)
+  | inr numbers ↦ inl (churn numbers.0 numbers.1, (words, refl, numbers.2))
+]
+
 other_line : (word : Text) (rest : List Text) (test : Bool) → subcommand_met (names_of app) idle word ≡ None
     → bytes_eq word (codes "--") ≡ test → IsRefusal (faults_of (word ∷ rest))
 other_line word rest true none is =
     subst (λ (w : Text). IsRefusal (faults_of (w ∷ rest))) (sym ((bytes_eq-Decides word (codes "--")).0 is)) (top_dashes rest)
 other_line word rest false none other = top_first word rest none other
 
-first_line : (word : Text) (rest : List Text) (replays creates serves : Bool) → bytes_eq (codes "replay") word ≡ replays
-    → bytes_eq (codes "create") word ≡ creates → bytes_eq (codes "serve") word ≡ serves
+first_line : (word : Text) (rest : List Text) (replays creates serves churns : Bool) → bytes_eq (codes "replay") word ≡ replays
+    → bytes_eq (codes "create") word ≡ creates → bytes_eq (codes "serve") word ≡ serves → bytes_eq (codes "churn") word ≡ churns
     → IsLine (word ∷ rest)
-first_line word rest true creates serves is other others =
+first_line word rest true creates serves churns is other others last =
     subst (λ (w : Text). IsLine (w ∷ rest)) ((bytes_eq-Decides (codes "replay") word).0 is) (replay_line rest (after_replay rest))
-first_line word rest false true serves other is others =
+first_line word rest false true serves churns other is others last =
     subst (λ (w : Text). IsLine (w ∷ rest)) ((bytes_eq-Decides (codes "create") word).0 is) (create_line rest)
-first_line word rest false false true other others is =
+first_line word rest false false true churns other others is last =
     subst (λ (w : Text). IsLine (w ∷ rest)) ((bytes_eq-Decides (codes "serve") word).0 is) (serve_line rest)
-first_line word rest false false false replays creates serves =
-    inr (other_line word rest (bytes_eq word (codes "--")) (no_command word replays creates serves) refl)
+first_line word rest false false false true other others last is =
+    subst (λ (w : Text). IsLine (w ∷ rest)) ((bytes_eq-Decides (codes "churn") word).0 is) (churn_line rest)
+first_line word rest false false false false replays creates serves churns =
+    inr (other_line word rest (bytes_eq word (codes "--")) (no_command word replays creates serves churns) refl)
 
 pub each_line : (words : List Text) → IsLine words
 each_line [] = inr nothing_refused
 each_line (word ∷ rest) =
     first_line word rest (bytes_eq (codes "replay") word) (bytes_eq (codes "create") word) (bytes_eq (codes "serve") word)
-    refl refl refl
+    (bytes_eq (codes "churn") word) refl refl refl refl
 
 -- the words after a command that may be ended
 after_command : (command : Text) (options words : List Text) → MayEnd (command ∷ options) words
@@ -298,6 +334,8 @@ spelled_is_taken words (create options) (are, end) =
     given_is_quiet (codes "create") create_options has_create words (options, are, end)
 spelled_is_taken words (serve options) (are, end) =
     given_is_quiet (codes "serve") serve_options has_serve words (options, are, end)
+spelled_is_taken words (churn steps seed) (rest, is, are) =
+    rw is (churn_stops rest ∙ churn_quiet rest (numbers_are_taken steps seed rest are))
 
 -- ---- what clap finds
 
@@ -316,6 +354,8 @@ abbrev pub IsFound : Line → Option (Text × List Row) → Type 0
 IsFound replay met = (rows : List Row) × (met ≡ Some (codes "replay", rows))
 IsFound (create options) met = FindsValues (codes "create") create_options options met
 IsFound (serve options) met = FindsValues (codes "serve") serve_options options met
+IsFound (churn steps seed) met = (rows : List Row) × (met ≡ Some (codes "churn", rows))
+    × ((name : Text) → first_of name rows ≡ churn_value steps seed name)
 
 replay_found : (words : List Text) → (rest : List Text) × (words ≡ codes "replay" ∷ rest) × MayEnd [] rest
     → IsFound replay (subcommand_of lsvdctl words)
@@ -339,6 +379,11 @@ pub spelled_is_found : (words : List Text) (line : Line) → Spells words line �
 spelled_is_found words replay end = replay_found words (after_command (codes "replay") [] words end)
 spelled_is_found words (create options) (are, end) = given_finds (codes "create") create_options has_create words options are end
 spelled_is_found words (serve options) (are, end) = given_finds (codes "serve") serve_options has_serve words options are end
+spelled_is_found words (churn steps seed) (rest, is, are) = (
+  rows_after places.rules [] rest,
+  rw is (churn_meets rest),
+  numbers_are_found steps seed rest are,
+)
 
 -- ---- what follows for a request, and for help
 
@@ -365,6 +410,7 @@ abbrev command_of : Line → Text
 command_of replay = codes "replay"
 command_of (create options) = codes "create"
 command_of (serve options) = codes "serve"
+command_of (churn steps seed) = codes "churn"
 
 first_is : (command : Text) (options : List Text) (first : Text) (rest : List Text) → MayEnd (command ∷ options) (first ∷ rest)
     → first ≡ command
@@ -377,6 +423,7 @@ first_of_line : (first : Text) (rest : List Text) (line : Line) → Spells (firs
 first_of_line first rest replay end = first_is (codes "replay") [] first rest end
 first_of_line first rest (create options) (are, end) = first_is (codes "create") (flat_map option_words options) first rest end
 first_of_line first rest (serve options) (are, end) = first_is (codes "serve") (flat_map option_words options) first rest end
+first_of_line first rest (churn steps seed) (more, is, are) = cc
 
 pub spells_a_command : (first : Text) (rest : List Text) (line : Line) → Spells (first ∷ rest) line
     → All (λ command. command ≢ first) commands → ⊥
@@ -386,6 +433,7 @@ spells_a_command first rest line spelled others = go line (first_of_line first r
     go replay is = others 0 [] (lit< tt) (sym is)
     go (create options) is = others 1 [] (lit< tt) (sym is)
     go (serve options) is = others 2 [] (lit< tt) (sym is)
+    go (churn steps seed) is = others 3 [] (lit< tt) (sym is)
 
 pub nothing_is_spelled : (line : Line) → Spells [] line → ⊥
 nothing_is_spelled replay (inl is) = cc
@@ -394,6 +442,7 @@ nothing_is_spelled (create options) (are, inl is) = cc
 nothing_is_spelled (create options) (are, inr is) = cc
 nothing_is_spelled (serve options) (are, inl is) = cc
 nothing_is_spelled (serve options) (are, inr is) = cc
+nothing_is_spelled (churn steps seed) (rest, is, are) = cc
 
 -- an error of words that ask for help is the answer to it
 abbrev AsksIn : Kinds → Type 0
@@ -442,15 +491,23 @@ unfolding clap_on_literals
 replay_asks option rest (inl is) = rw is (inl refl)
 replay_asks option rest (inr is) = rw is (inl refl)
 
+churn_asks : (option : Text) (rest : List Text) → IsHelpOption option → IsAmong DisplayHelp (churn_faults (option ∷ rest))
+unfolding clap_on_literals
+churn_asks option rest (inl is) = rw is (inl refl)
+churn_asks option rest (inr is) = rw is (inl refl)
+
 pub second_asks : (option : Text) (rest : List Text) → IsHelpOption option
     → All (λ command. AsksForHelp (command ∷ option ∷ rest)) commands
 second_asks option rest is =
-    All-cons (λ command. AsksForHelp (command ∷ option ∷ rest)) (codes "replay") (codes "create" ∷ codes "serve" ∷ [])
+    All-cons (λ command. AsksForHelp (command ∷ option ∷ rest)) (codes "replay")
+    (codes "create" ∷ codes "serve" ∷ codes "churn" ∷ [])
     (inl (after_replay_holds (IsAmong DisplayHelp) (among_first DisplayHelp) (option ∷ rest) (replay_asks option rest is)))
-    (All-cons (λ command. AsksForHelp (command ∷ option ∷ rest)) (codes "create") (codes "serve" ∷ [])
+    (All-cons (λ command. AsksForHelp (command ∷ option ∷ rest)) (codes "create") (codes "serve" ∷ codes "churn" ∷ [])
     (inl (after_holds (codes "create") create_options has_create (IsAmong DisplayHelp) (among_first DisplayHelp) (option ∷ rest)
     (has_create.asks option rest is)))
-    (All-cons (λ command. AsksForHelp (command ∷ option ∷ rest)) (codes "serve") []
+    (All-cons (λ command. AsksForHelp (command ∷ option ∷ rest)) (codes "serve") (codes "churn" ∷ [])
     (inl (after_holds (codes "serve") serve_options has_serve (IsAmong DisplayHelp) (among_first DisplayHelp) (option ∷ rest)
     (has_serve.asks option rest is)))
-    (All-nil (λ command. AsksForHelp (command ∷ option ∷ rest)))))
+    (All-cons (λ command. AsksForHelp (command ∷ option ∷ rest)) (codes "churn") []
+    (inl (after_churn_holds (IsAmong DisplayHelp) (among_first DisplayHelp) (option ∷ rest) (churn_asks option rest is)))
+    (All-nil (λ command. AsksForHelp (command ∷ option ∷ rest))))))

@@ -1,8 +1,8 @@
 -- What is told of a faulty command line is true.
 use Rattle.std.proofs.Common.{◌≡◌, ◌≢◌, ◌⊎◌, ◌∙◌, ◌<◌, ◌+◌, ◌&&◌, ◌||◌, ℕ, Bool, true, false, not, List, [], ◌∷◌, Option, Some}
-use Rattle.std.proofs.Common.{None, inl, inr, refl, sym, ap, ap₂, arith, codes, drop, find, get_or, length, map, option_map}
-use Rattle.std.proofs.Common.{string_bytes, subst, take, unwrap_or}
-use Rattle.std.specs.Prelude.{slice_get, ◌↔◌, ◌==◌, IfSome, IsTrue, String, if◌then◌else◌}
+use Rattle.std.proofs.Common.{None, inl, inr, refl, sym, ap, ap₂, arith, codes, drop, find, get_or, is_some, length, map}
+use Rattle.std.proofs.Common.{option_map, string_bytes, subst, take, unwrap_or}
+use Rattle.std.specs.Prelude.{slice_get, ◌↔◌, ◌==◌, IfSome, IsTrue, String, filter, if◌then◌else◌}
 use Rattle.std.specs.Borrow.{Bor}
 use Rattle.std.specs.List.{All, list_any}
 use Rattle.std.specs.Option.{option_map_or}
@@ -26,12 +26,11 @@ use Rattle.clap.specs.declared.builder.command.Command.TheViews.{out-Command}
 use Rattle.clap.specs.declared.error.Error.{Error}
 use Rattle.clap.specs.declared.error.kind.ErrorKind.{ErrorKind}
 use Rattle.clap.specs.declared.error.kind.ErrorKind.TheVariants.{OutOfMemory}
-use Rattle.command_line.specs.CommandLine.{IsFaulty, Line, Spells, commands, create, faults_of, replay, serve}
+use Rattle.command_line.specs.CommandLine.{IsFaulty, Line, Spells, churn, commands, create, faults_of, replay, serve}
 use Rattle.command_line.specs.Create.{create_options}
-use Rattle.command_line.specs.Met.{value_among}
 use Rattle.command_line.specs.Mistake.{IsGivenOption, IsTrueOf, IsTrueOfCommand, IsTrueOfMet, IsTrueOfOptions, IsTrueOfValues}
 use Rattle.command_line.specs.Mistake.{by_options, by_values, by_words, before_value, gives, has_option, has_value}
-use Rattle.command_line.specs.Mistake.{options_of, takes, with_help}
+use Rattle.command_line.specs.Mistake.{is_named, options_of, takes, with_help}
 use Rattle.command_line.specs.Options.{CommandOption, flag, is_required, option_name, optional, required, rule_for}
 use Rattle.command_line.specs.Program.{lsvdctl}
 use Rattle.command_line.specs.Program as program
@@ -41,7 +40,7 @@ use Rattle.command_line.specs.declared.mistake.Mistake.{Mistake}
 use Rattle.command_line.specs.declared.mistake.Mistake.TheVariants.{UnknownOption, StrayWord, NoValue, FlagValue, Twice, Missing}
 use Rattle.command_line.specs.declared.mistake.Mistake.TheVariants.{Other}
 use Rattle.command_line.proofs.Lines.{IsFound}
-use Rattle.command_line.proofs.Requests.{met_as, other_command, values_met}
+use Rattle.command_line.proofs.Requests.{other_command, values_met, words_met}
 
 -- ---- clap refuses the words
 
@@ -61,31 +60,33 @@ pub met_is_true : (words : List Text) (line : Line) (met : Option (Text × List 
     → IsTrueOfMet met mistake → IsTrueOf words mistake
 met_is_true words replay met mistake spelled (rows, is) (inl (others, also, holds)) =
     absurd (other_command (codes "replay") (codes "create") rows others met refl is also)
-met_is_true words replay met mistake spelled (rows, is) (inr (others, also, holds)) =
+met_is_true words replay met mistake spelled (rows, is) (inr (inl (others, also, holds))) =
     absurd (other_command (codes "replay") (codes "serve") rows others met refl is also)
+met_is_true words replay met mistake spelled (rows, is) (inr (inr (others, also, holds))) =
+    absurd (other_command (codes "replay") (codes "churn") rows others met refl is also)
 met_is_true words (create options) met mistake spelled (rows, is, same) (inl (others, also, holds)) =
     by_values (create options) spelled
     (values_met (λ value. IsTrueOfValues value mistake) (codes "create") create_options options met rows others is also
     same holds)
-met_is_true words (create options) met mistake spelled (rows, is, same) (inr (others, also, holds)) =
+met_is_true words (create options) met mistake spelled (rows, is, same) (inr (inl (others, also, holds))) =
     absurd (other_command (codes "create") (codes "serve") rows others met refl is also)
+met_is_true words (create options) met mistake spelled (rows, is, same) (inr (inr (others, also, holds))) =
+    absurd (other_command (codes "create") (codes "churn") rows others met refl is also)
 met_is_true words (serve options) met mistake spelled (rows, is, same) (inl (others, also, holds)) =
     absurd (other_command (codes "serve") (codes "create") rows others met refl is also)
-met_is_true words (serve options) met mistake spelled (rows, is, same) (inr (others, also, holds)) =
+met_is_true words (serve options) met mistake spelled (rows, is, same) (inr (inl (others, also, holds))) =
     by_values (serve options) spelled
-    (values_met (λ value. IsTrueOfValues value mistake) (codes "serve") serve_options options met rows others is also same holds)
-
--- the same, by the command that was looked up
-pub create_is_met : (met : Option (Text × List Row)) (rows : List Row) (found : Option Mistake)
-    → met ≡ met_as (codes "create") rows
-    → IfSome found (IsTrueOfValues (value_among rows)) → IfSome found (IsTrueOfMet met)
-create_is_met met rows None is holds = tt
-create_is_met met rows (Some mistake) is holds = inl (rows, is, holds)
-
-pub serve_is_met : (met : Option (Text × List Row)) (rows : List Row) (found : Option Mistake) → met ≡ met_as (codes "serve") rows
-    → IfSome found (IsTrueOfValues (value_among rows)) → IfSome found (IsTrueOfMet met)
-serve_is_met met rows None is holds = tt
-serve_is_met met rows (Some mistake) is holds = inr (rows, is, holds)
+    (values_met (λ value. IsTrueOfValues value mistake) (codes "serve") serve_options options met rows others is also
+    same holds)
+met_is_true words (serve options) met mistake spelled (rows, is, same) (inr (inr (others, also, holds))) =
+    absurd (other_command (codes "serve") (codes "churn") rows others met refl is also)
+met_is_true words (churn steps seed) met mistake spelled (rows, is, same) (inl (others, also, holds)) =
+    absurd (other_command (codes "churn") (codes "create") rows others met refl is also)
+met_is_true words (churn steps seed) met mistake spelled (rows, is, same) (inr (inl (others, also, holds))) =
+    absurd (other_command (codes "churn") (codes "serve") rows others met refl is also)
+met_is_true words (churn steps seed) met mistake spelled (rows, is, same) (inr (inr (others, also, holds))) =
+    by_values (churn steps seed) spelled
+    (words_met (λ value. IsTrueOfValues value mistake) steps seed met rows others is also same holds)
 
 pub found_or_other : (words : List Text) (line : Line) (met : Option (Text × List Row)) (found : Option Mistake)
     → Spells words line
@@ -113,14 +114,14 @@ text_is_no_uuid value name text is (other, also, none) =
 pub record IsCommand (word : Text) (shape : Shape) : Type 0 where
   pub name : shape.name ≡ word
   pub options : List CommandOption
-  pub rules : shape.rules ≡ map rule_for options
+  pub rules : filter is_named shape.rules ≡ map rule_for options
   pub are : with_help options ≡ options_of word
 
 abbrev Shapes : Type 0
 Shapes = List Shape
 
 abbrev shapes : Shapes
-shapes = program.replay ∷ program.create ∷ program.serve ∷ []
+shapes = program.replay ∷ program.create ∷ program.serve ∷ program.churn ∷ []
 
 subs_are : lsvdctl.subs ≡ shapes
 unfolding lsvdctl
@@ -141,34 +142,41 @@ shape_is word name shape known same is command =
 
 found_among : (word : Text) (shape : Shape) → Some shape ≡ find (λ s. answers_to word (label_of s)) shapes → IsCommand word shape
 found_among word shape is =
-    go (bytes_eq (codes "replay") word) (bytes_eq (codes "create") word) (bytes_eq (codes "serve") word) refl refl refl
+    go (bytes_eq (codes "replay") word) (bytes_eq (codes "create") word) (bytes_eq (codes "serve") word)
+    (bytes_eq (codes "churn") word) refl refl refl refl
   where
-    go : (first second third : Bool) → bytes_eq (codes "replay") word ≡ first → bytes_eq (codes "create") word ≡ second
-        → bytes_eq (codes "serve") word ≡ third → IsCommand word shape
-    go true second third e f g = shape_is word (codes "replay") shape program.replay e (rw e at is)
+    go : (first second third last : Bool) → bytes_eq (codes "replay") word ≡ first → bytes_eq (codes "create") word ≡ second
+        → bytes_eq (codes "serve") word ≡ third → bytes_eq (codes "churn") word ≡ last → IsCommand word shape
+    go true second third last e f g h = shape_is word (codes "replay") shape program.replay e (rw e at is)
         (record { name = refl; options = []; rules = refl; are = refl })
-    go false true third e f g = shape_is word (codes "create") shape program.create f (rw (e, f) at is)
+    go false true third last e f g h = shape_is word (codes "create") shape program.create f (rw (e, f) at is)
         (record { name = refl; options = create_options; rules = refl; are = refl })
-    go false false true e f g = shape_is word (codes "serve") shape program.serve g (rw (e, f, g) at is)
+    go false false true last e f g h = shape_is word (codes "serve") shape program.serve g (rw (e, f, g) at is)
         (record { name = refl; options = serve_options; rules = refl; are = refl })
-    go false false false e f g = let bad : Some shape ≡ None = rw (e, f, g) at is in cc
+    go false false false true e f g h = shape_is word (codes "churn") shape program.churn h (rw (e, f, g, h) at is)
+        (record { name = refl; options = []; rules = refl; are = refl })
+    go false false false false e f g h = let bad : Some shape ≡ None = rw (e, f, g, h) at is in cc
 
 abbrev IsNot : Text → Text → Type 0
 IsNot word command = command ≢ word
 
 none_among : (word : Text) → None ≡ find (λ s. answers_to word (label_of s)) shapes → All (λ command. command ≢ word) commands
 none_among word is =
-    go (bytes_eq (codes "replay") word) (bytes_eq (codes "create") word) (bytes_eq (codes "serve") word) refl refl refl
+    go (bytes_eq (codes "replay") word) (bytes_eq (codes "create") word) (bytes_eq (codes "serve") word)
+    (bytes_eq (codes "churn") word) refl refl refl refl
   where
-    go : (first second third : Bool) → bytes_eq (codes "replay") word ≡ first → bytes_eq (codes "create") word ≡ second
-        → bytes_eq (codes "serve") word ≡ third → All (λ command. command ≢ word) commands
-    go true second third e f g = let bad : None ≡ Some program.replay = rw e at is in cc
-    go false true third e f g = let bad : None ≡ Some program.create = rw (e, f) at is in cc
-    go false false true e f g = let bad : None ≡ Some program.serve = rw (e, f, g) at is in cc
-    go false false false e f g =
-        All-cons (IsNot word) (codes "replay") (codes "create" ∷ codes "serve" ∷ []) (differ (codes "replay") word e)
-        (All-cons (IsNot word) (codes "create") (codes "serve" ∷ []) (differ (codes "create") word f)
-        (All-cons (IsNot word) (codes "serve") [] (differ (codes "serve") word g) (All-nil (IsNot word))))
+    go : (first second third last : Bool) → bytes_eq (codes "replay") word ≡ first → bytes_eq (codes "create") word ≡ second
+        → bytes_eq (codes "serve") word ≡ third → bytes_eq (codes "churn") word ≡ last → All (λ command. command ≢ word) commands
+    go true second third last e f g h = let bad : None ≡ Some program.replay = rw e at is in cc
+    go false true third last e f g h = let bad : None ≡ Some program.create = rw (e, f) at is in cc
+    go false false true last e f g h = let bad : None ≡ Some program.serve = rw (e, f, g) at is in cc
+    go false false false true e f g h = let bad : None ≡ Some program.churn = rw (e, f, g, h) at is in cc
+    go false false false false e f g h =
+        All-cons (IsNot word) (codes "replay") (codes "create" ∷ codes "serve" ∷ codes "churn" ∷ [])
+        (differ (codes "replay") word e)
+        (All-cons (IsNot word) (codes "create") (codes "serve" ∷ codes "churn" ∷ []) (differ (codes "create") word f)
+        (All-cons (IsNot word) (codes "serve") (codes "churn" ∷ []) (differ (codes "serve") word g)
+        (All-cons (IsNot word) (codes "churn") [] (differ (codes "churn") word h) (All-nil (IsNot word)))))
 
 -- the same, by what clap found in the program
 pub command_found : (app : App) (word : Text) (shape : Shape) → app ≡ lsvdctl
@@ -205,6 +213,24 @@ by_rules p holds name same (option ∷ rest) = ap₂ (λ a b. a || b) (one optio
     one (optional n d) = ap (λ b. b && bytes_eq n name) (same (optional n d))
     one (flag n) = ap (λ b. b && bytes_eq n name) (same (flag n))
 
+lacks_name : (passes : Bool) (long : Option Text) (name : Text) → is_some long ≡ false
+    → (passes && option_map_or (λ l. bytes_eq l name) long false) ≡ false
+lacks_name true None name none = refl
+lacks_name false None name none = refl
+lacks_name passes (Some long) name none = cc
+
+-- a rule of this name is that of an option
+named_alike : (p : Rule → Bool) (name : Text) (rules : List Rule)
+    → list_any (rule_has p name) (filter is_named rules) ≡ list_any (rule_has p name) rules
+named_alike p name [] = refl
+named_alike p name (rule ∷ rest) = go (is_named rule) refl (named_alike p name rest)
+  where
+    go : (named : Bool) → is_named rule ≡ named
+        → list_any (rule_has p name) (filter is_named rest) ≡ list_any (rule_has p name) rest
+        → list_any (rule_has p name) (filter is_named (rule ∷ rest)) ≡ list_any (rule_has p name) (rule ∷ rest)
+    go true e more = rw e (ap (λ b. rule_has p name rule || b) more)
+    go false e more = rw (e, lacks_name (p rule) rule.long name e) more
+
 either : (first second : Bool) → second ≡ true → (first || second) ≡ true
 either true second holds = refl
 either false second holds = holds
@@ -217,7 +243,8 @@ same_text text = (bytes_eq-Decides text text).1 refl
 
 -- the argument of clap at this place has the name, and passes a test that says what holds of the option
 rule_is_option : (p : Rule → Bool) (holds : CommandOption → Bool) (name : Text) → ((o : CommandOption) → p (rule_for o) ≡ holds o)
-    → (args : List Arg) (options : List CommandOption) (i : ℕ) (arg : Arg) → map rule_of args ≡ map rule_for options
+    → (args : List Arg) (options : List CommandOption) (i : ℕ) (arg : Arg) → filter is_named (map rule_of args)
+    ≡ map rule_for options
     → i < length args
     → get_or args i arg ≡ arg → p (rule_of arg) ≡ true → (rule_of arg).long ≡ Some name
     → has_option holds name (with_help options) ≡ true
@@ -230,7 +257,12 @@ rule_is_option p holds name same args options i arg are within at passes long =
     let length_is : length (map rule_of args) ≡ length args = length-map args rule_of in
     let any : list_any P (map rule_of args) ≡ true =
     list_any_at P (map rule_of args) i (rule_of arg) (omega arith) (ap P there ∙ here) in
-    either _ (has_option holds name options) (sym (by_rules p holds name same options) ∙ ap (list_any P) (sym are) ∙ any)
+    either _ (has_option holds name options)
+    (sym (by_rules p holds name same options) ∙ ap (list_any P) (sym are) ∙ named_alike p name (map rule_of args) ∙ any)
+
+-- the options of clap among these
+abbrev named_rules : List Arg → List Rule
+named_rules args = filter is_named (map rule_of args)
 
 required_same : (o : CommandOption) → (rule_for o).required ≡ is_required o
 required_same (required n) = refl
@@ -238,7 +270,7 @@ required_same (optional n d) = refl
 required_same (flag n) = refl
 
 pub required_is_option : (name : Text) (args : List Arg) (options : List CommandOption) (i : ℕ) (arg : Arg)
-    → map rule_of args ≡ map rule_for options → i < length args → get_or args i arg ≡ arg → arg.required ≡ true
+    → filter is_named (map rule_of args) ≡ map rule_for options → i < length args → get_or args i arg ≡ arg → arg.required ≡ true
     → (rule_of arg).long ≡ Some name → has_option is_required name (with_help options) ≡ true
 required_is_option name = rule_is_option (λ r. r.required) is_required name required_same
 
@@ -285,7 +317,7 @@ takes_same value (optional n d) = refl
 takes_same value (flag n) = refl
 
 pub valued_is_option : (value : Bool) (name : Text) (args : List Arg) (options : List CommandOption) (i : ℕ) (arg : Arg)
-    → map rule_of args ≡ map rule_for options → i < length args → get_or args i arg ≡ arg
+    → filter is_named (map rule_of args) ≡ map rule_for options → i < length args → get_or args i arg ≡ arg
     → IsTrue value ↔ ((action_of (rule_of arg) ≡ Set) ⊎ (action_of (rule_of arg) ≡ Append))
     → (rule_of arg).long ≡ Some name → has_option (takes value) name (with_help options) ≡ true
 valued_is_option value name args options i arg are within at is =
@@ -394,7 +426,7 @@ module _ {Z : Type 0} where
       → arg.long ≡ Some option → list_any (λ w. gives option.now (string_bytes w)) words ≡ false
       → IsTrueOfCommand command (map string_bytes words) (Missing option)
   missing_is_true command words items i arg option same within at wanted long none = λ options are. (
-    required_is_option option.now items options i arg (ap (map rule_of) same ∙ are) within (sym at) wanted
+    required_is_option option.now items options i arg (ap named_rules same ∙ are) within (sym at) wanted
         (ap (option_map (λ (t : Bor Text). t.now)) long),
     texts_pass (gives option.now) words ∙ none,
   )
@@ -406,13 +438,7 @@ pub given_is_true : (command : Command) (word : Text) (value : Bool) (action : A
     → IsGivenOption command word long.now value
 given_is_true command word value action items i arg long same within at is action_is takes_it given = (
   given,
-  λ options are. valued_is_option value long.now items options i arg (ap (map rule_of) same ∙ are) within (sym at)
+  λ options are. valued_is_option value long.now items options i arg (ap named_rules same ∙ are) within (sym at)
       (subst (λ (a : ArgAction). IsTrue value ↔ ((a ≡ Set) ⊎ (a ≡ Append))) action_is takes_it)
       (ap (option_map (λ (t : Bor Text). t.now)) is),
 )
-
-pub found_or_other_of : (command : Command) (words : List Text) (found : Option Mistake)
-    → IfSome found (IsTrueOfCommand command words)
-    → IsTrueOfCommand command words (unwrap_or found Other)
-found_or_other_of command words None holds = λ options are. tt
-found_or_other_of command words (Some mistake) holds = holds

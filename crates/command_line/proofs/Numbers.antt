@@ -1,11 +1,13 @@
 -- A text that spells a number in decimal digits is parsed to it.
-use Rattle.std.proofs.Common.{◌≡◌, ◌≢◌, ◌∙◌, ◌^◌, ◌<◌, ℕ, Bool, true, false, List, Option, Some, None, ap, refl, sym}
-use Rattle.std.specs.Prelude.{Ok, Result, decimal, IfNone}
+use Rattle.std.proofs.Common.{◌≡◌, ◌≢◌, ◌∙◌, ◌^◌, ◌%◌, ◌<◌, ◌+◌, ◌++◌, ℕ, Bool, true, false, inl, List, [], ◌∷◌, Option, Some}
+use Rattle.std.proofs.Common.{None, ap, arith, refl, sym}
+use Rattle.std.specs.Prelude.{Ok, Result, decimal, IfNone, slice_get}
 use Rattle.std.specs.Bool.{then_some}
 use Rattle.std.specs.Str.{bytes_eq}
 use Rattle.std.specs.Str.Parse.{ParsesUnsigned}
-use Rattle.std.proofs.lemmas.Fmt.{parse-decimal}
+use Rattle.std.proofs.lemmas.Fmt.{decimal_by_steps, parse-decimal}
 use Rattle.std.proofs.lemmas.Slice.Eq.{bytes_eq-Decides}
+use Rattle.command_line.specs.Options.{StandsAlone}
 
 -- what `ok` makes of a result that is `Ok`
 module _ {E : Type 0} where
@@ -32,3 +34,22 @@ module _ {E : Type 0} where
           let equal : n ≡ number = cc in
           let texts : printed ≡ text = prints ∙ ap decimal (sym equal) ∙ sym is in
           let both : true ≡ false = sym ((bytes_eq-Decides printed text).1 texts) ∙ e in cc
+
+-- ---- the digits of a number are a value that is a word of its own
+
+abbrev NoHyphen : List ℕ → Type 0
+NoHyphen text = slice_get text 0 ≢ Some 45
+
+digit_no_hyphen : (n : ℕ) → NoHyphen ((48 + n) ∷ [])
+digit_no_hyphen n bad =
+    let same : Some (48 + n) ≡ Some 45 = bad in
+    let is : 48 + n ≡ 45 = cc in omega (arith, is)
+
+more_no_hyphen : (digit : ℕ) (text : List ℕ) → NoHyphen text → NoHyphen (text ++ (48 + digit) ∷ [])
+more_no_hyphen digit [] none = digit_no_hyphen digit
+more_no_hyphen digit (x ∷ xs) none = none
+
+pub decimal_stands : (n : ℕ) → n < 2 ^ 64 → StandsAlone (decimal n)
+decimal_stands n small =
+    inl (decimal_by_steps (λ _ text. NoHyphen text) (λ m below. digit_no_hyphen m)
+    (λ m text above before. more_no_hyphen (m % 10) text before) n small)

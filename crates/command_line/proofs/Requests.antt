@@ -1,7 +1,7 @@
 -- What a line asks for, by what clap finds in its words.
 use Rattle.std.proofs.Common.{◌≡◌, ◌≢◌, ◌⊎◌, ◌∙◌, ◌^◌, ◌<◌, ◌∷◌, ◌+◌, ◌*◌, ◌&&◌, ℕ, Bool, true, false, List, [], Option, Some}
 use Rattle.std.proofs.Common.{None, inl, inr, ap, arith, codes, find, is_some, option_map, refl, subst, sym}
-use Rattle.std.specs.Prelude.{Err, IsErrOf, Ok, Result}
+use Rattle.std.specs.Prelude.{◌≤◌, Err, IsErrOf, Ok, Result, decimal}
 use Rattle.std.specs.List.{list_any}
 use Rattle.std.specs.Str.{bytes_eq}
 use Rattle.std.proofs.lemmas.Bool.{cases_lt}
@@ -18,7 +18,9 @@ use Rattle.clap.specs.declared.parser.matches.ArgMatches.TheViews.{out-ArgMatche
 use Rattle.clap.specs.declared.parser.matches.SubCommand.{SubCommand}
 use Rattle.lsvd_base.specs.Limits.{is_within_limits}
 use Rattle.lsvd_base.specs.declared.geometry.Geometry.{Geometry}
-use Rattle.command_line.specs.CommandLine.{HasBadOptions, IsAskedBy, IsRead, Line, Spells, create, replay, serve}
+use Rattle.command_line.specs.Churn.{AsksToChurn, HasBadNumber, churn_value}
+use Rattle.command_line.specs.Churn as churning
+use Rattle.command_line.specs.CommandLine.{HasBadOptions, IsAskedBy, IsRead, Line, Spells, churn, create, replay, serve}
 use Rattle.command_line.specs.Create.{AreValid, AsksToCreate, HasBadUuid, HasBadValue, batch, create_options, limits, log}
 use Rattle.command_line.specs.Create.{max_write, sectors, uuid, value_in}
 use Rattle.command_line.specs.Met.{IsMadeOf, LacksRequired, LacksServeValue, LacksValue, MakesNone, value_among}
@@ -30,8 +32,9 @@ use Rattle.command_line.specs.Values.{IsNoUuid, LacksBetween, MayBeBetween}
 use Rattle.command_line.specs.declared.request.CommandLineError.{CommandLineError}
 use Rattle.command_line.specs.declared.request.CommandLineError.TheVariants.{Usage, OutOfMemory}
 use Rattle.command_line.specs.declared.request.Request.{Request}
-use Rattle.command_line.specs.declared.request.Request.TheVariants.{Replay, Create, Serve}
+use Rattle.command_line.specs.declared.request.Request.TheVariants.{Replay, Create, Serve, Churn}
 use Rattle.command_line.proofs.Lines.{IsFound}
+use Rattle.command_line.proofs.Numbers.{decimal_stands}
 use Rattle.command_line.proofs.Rows.{any_found}
 use Rattle.command_line.proofs.Rules.{Known}
 use Rattle.command_line.proofs.Spelled.{same_number}
@@ -106,6 +109,16 @@ values_met P command known options met rows others is also same holds =
     let equal : others ≡ rows = ap rows_met (sym also ∙ is) in
     subst P (ap value_among equal ∙ same_values known options rows same) holds
 
+-- and so of the two words of `churn`
+pub words_met : (P : (Text → Option Text) → Type 0) (steps seed : Text) (met : Option (Text × List Row)) (rows others : List Row)
+    → met ≡ met_as (codes "churn") rows → met ≡ met_as (codes "churn") others
+    → ((name : Text) → value_among rows name ≡ churn_value steps seed name)
+    → P (value_among others) → P (churn_value steps seed)
+words_met P steps seed met rows others is also same holds =
+    let equal : others ≡ rows = ap rows_met (sym also ∙ is) in
+    let values : value_among rows ≡ churn_value steps seed = fun_ext same in
+    subst P (ap value_among equal ∙ values) holds
+
 -- ---- what a command makes
 
 module _ {Z : Type 0} where
@@ -129,6 +142,7 @@ creates_none met rows is lacks = record {
   replay = λ others also. other_command (codes "create") (codes "replay") rows others met refl is also;
   create = λ others also. subst (λ (r : List Row). LacksValue (value_among r)) (ap rows_met (sym is ∙ also)) lacks;
   serve = λ others also. absurd (other_command (codes "create") (codes "serve") rows others met refl is also);
+  churn = λ others also. absurd (other_command (codes "create") (codes "churn") rows others met refl is also);
 }
 
 pub serves_none : (met : Option (Text × List Row)) (rows : List Row) → met ≡ met_as (codes "serve") rows
@@ -138,6 +152,17 @@ serves_none met rows is lacks = record {
   replay = λ others also. other_command (codes "serve") (codes "replay") rows others met refl is also;
   create = λ others also. absurd (other_command (codes "serve") (codes "create") rows others met refl is also);
   serve = λ others also. subst (λ (r : List Row). LacksServeValue (value_among r)) (ap rows_met (sym is ∙ also)) lacks;
+  churn = λ others also. absurd (other_command (codes "serve") (codes "churn") rows others met refl is also);
+}
+
+pub churns_none : (met : Option (Text × List Row)) (rows : List Row) → met ≡ met_as (codes "churn") rows
+    → HasBadNumber (value_among rows)
+    → MakesNone met
+churns_none met rows is lacks = record {
+  replay = λ others also. other_command (codes "churn") (codes "replay") rows others met refl is also;
+  create = λ others also. absurd (other_command (codes "churn") (codes "create") rows others met refl is also);
+  serve = λ others also. absurd (other_command (codes "churn") (codes "serve") rows others met refl is also);
+  churn = λ others also. subst (λ (r : List Row). HasBadNumber (value_among r)) (ap rows_met (sym is ∙ also)) lacks;
 }
 
 -- ---- what a line asks for
@@ -149,18 +174,32 @@ found_asks replay met (Create request) (rows, is) (others, also, asks) =
     absurd (other_command (codes "replay") (codes "create") rows others met refl is also)
 found_asks replay met (Serve request) (rows, is) (others, also, asks) =
     absurd (other_command (codes "replay") (codes "serve") rows others met refl is also)
+found_asks replay met (Churn request) (rows, is) (others, also, asks) =
+    absurd (other_command (codes "replay") (codes "churn") rows others met refl is also)
 found_asks (create options) met Replay (rows, is, same) (others, also) =
     absurd (other_command (codes "create") (codes "replay") rows others met refl is also)
 found_asks (create options) met (Create request) (rows, is, same) (others, also, asks) =
     values_met (λ value. AsksToCreate value request) (codes "create") create_options options met rows others is also same asks
 found_asks (create options) met (Serve request) (rows, is, same) (others, also, asks) =
     absurd (other_command (codes "create") (codes "serve") rows others met refl is also)
+found_asks (create options) met (Churn request) (rows, is, same) (others, also, asks) =
+    absurd (other_command (codes "create") (codes "churn") rows others met refl is also)
 found_asks (serve options) met Replay (rows, is, same) (others, also) =
     absurd (other_command (codes "serve") (codes "replay") rows others met refl is also)
 found_asks (serve options) met (Create request) (rows, is, same) (others, also, asks) =
     absurd (other_command (codes "serve") (codes "create") rows others met refl is also)
 found_asks (serve options) met (Serve request) (rows, is, same) (others, also, asks) =
     values_met (λ value. AsksToServe value request) (codes "serve") serve_options options met rows others is also same asks
+found_asks (serve options) met (Churn request) (rows, is, same) (others, also, asks) =
+    absurd (other_command (codes "serve") (codes "churn") rows others met refl is also)
+found_asks (churn steps seed) met Replay (rows, is, same) (others, also) =
+    absurd (other_command (codes "churn") (codes "replay") rows others met refl is also)
+found_asks (churn steps seed) met (Create request) (rows, is, same) (others, also, asks) =
+    absurd (other_command (codes "churn") (codes "create") rows others met refl is also)
+found_asks (churn steps seed) met (Serve request) (rows, is, same) (others, also, asks) =
+    absurd (other_command (codes "churn") (codes "serve") rows others met refl is also)
+found_asks (churn steps seed) met (Churn request) (rows, is, same) (others, also, asks) =
+    words_met (λ value. AsksToChurn value request) steps seed met rows others is also same asks
 
 pub found_asks_nothing : (words : List Text) (line : Line) (met : Option (Text × List Row)) → Spells words line → IsFound line met
     → MakesNone met
@@ -178,6 +217,8 @@ found_asks_nothing words (serve options) met (are, end) (rows, is, same) makes =
     go : LacksServeValue (serve_value options) → HasBadServeValue (serve_value options)
     go (inl bad) = bad
     go (inr lacks) = absurd (lacks_none serve_options options are lacks)
+found_asks_nothing words (churn steps seed) met spelled (rows, is, same) makes =
+    words_met HasBadNumber steps seed met rows rows is is same (makes.churn rows is)
 
 -- ---- what follows of the way in which a line is read
 
@@ -188,6 +229,7 @@ pub replay_is_read : (result : Answer) → IsRead replay result → (result ≡ 
 replay_is_read (Ok Replay) read = inl refl
 replay_is_read (Ok (Create request)) read = absurd read
 replay_is_read (Ok (Serve request)) read = absurd read
+replay_is_read (Ok (Churn request)) read = absurd read
 replay_is_read (Err Usage) read = absurd read
 replay_is_read (Err OutOfMemory) read = inr refl
 
@@ -243,3 +285,25 @@ pub serve_valid_is_read : (options : List Given) (result : Answer) → AreValidT
 serve_valid_is_read options (Ok request) valid read usage = let bad : Ok request ≡ Err Usage = usage in cc
 serve_valid_is_read options (Err OutOfMemory) valid read usage = let bad : Err OutOfMemory ≡ Err Usage = usage in cc
 serve_valid_is_read options (Err Usage) valid read usage = bad_serve_valid options valid read
+
+-- two numbers in their limits are no bad words
+bad_churn_valid : (steps seed : ℕ) → steps ≤ 1000000 → seed < 2 ^ 64 → HasBadNumber (churn_value (decimal steps) (decimal seed))
+    → ⊥
+bad_churn_valid steps seed few small (churning.steps lacks) = lacks steps ((omega arith, refl), omega arith, few)
+bad_churn_valid steps seed few small (churning.seed lacks) = lacks seed (small, refl)
+
+-- and spell a line
+pub numbers_spell : (steps seed : ℕ) (words : List Text) → steps ≤ 1000000 → seed < 2 ^ 64
+    → words ≡ codes "churn" ∷ decimal steps ∷ decimal seed ∷ [] → Spells words (churn (decimal steps) (decimal seed))
+numbers_spell steps seed words few small is = (
+  decimal steps ∷ decimal seed ∷ [],
+  is,
+  churning.plain (decimal_stands steps (omega arith)) (decimal_stands seed small) (inl refl),
+)
+
+pub churn_valid_is_read : (steps seed : ℕ) (result : Answer) → steps ≤ 1000000 → seed < 2 ^ 64
+    → IsRead (churn (decimal steps) (decimal seed)) result
+    → IsErrOf result Usage → ⊥
+churn_valid_is_read steps seed (Ok request) few small read usage = let bad : Ok request ≡ Err Usage = usage in cc
+churn_valid_is_read steps seed (Err OutOfMemory) few small read usage = let bad : Err OutOfMemory ≡ Err Usage = usage in cc
+churn_valid_is_read steps seed (Err Usage) few small read usage = bad_churn_valid steps seed few small read

@@ -1,3 +1,4 @@
+pub mod Churn
 pub mod CommandLine
 pub mod Commands
 pub mod Create

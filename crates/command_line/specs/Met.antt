@@ -3,12 +3,13 @@ use Rattle.std.specs.Prelude.{◌≡◌, ◌⊎◌, ◌-◌, ◌^◌, ◌&&◌, 
 use Rattle.std.specs.List.{list_any}
 use Rattle.std.specs.Str.{bytes_eq}
 use Rattle.clap.specs.Walk.{Row, Text, first_of}
+use Rattle.command_line.specs.Churn.{AsksToChurn, HasBadNumber}
 use Rattle.command_line.specs.Create.{AsksToCreate, HasBadValue, create_options}
 use Rattle.command_line.specs.Options.{CommandOption, is_required, option_name}
 use Rattle.command_line.specs.Serve.{AsksToServe, HasBadServeValue, serve_options}
 use Rattle.command_line.specs.Values.{IsBetween}
 use Rattle.command_line.specs.declared.request.Request.{Request}
-use Rattle.command_line.specs.declared.request.Request.TheVariants.{Replay, Create, Serve}
+use Rattle.command_line.specs.declared.request.Request.TheVariants.{Replay, Create, Serve, Churn}
 use Rattle.command_line.specs.declared.serve.Counts.{Counts}
 use Rattle.command_line.specs.declared.values.Files.{Files}
 
@@ -51,9 +52,11 @@ abbrev pub IsMadeOf : Option (Text × List Row) → Request → Type 0
 IsMadeOf met Replay = (rows : List Row) × IsMet met (codes "replay") rows
 IsMadeOf met (Create request) = (rows : List Row) × IsMet met (codes "create") rows × AsksToCreate (value_among rows) request
 IsMadeOf met (Serve request) = (rows : List Row) × IsMet met (codes "serve") rows × AsksToServe (value_among rows) request
+IsMadeOf met (Churn request) = (rows : List Row) × IsMet met (codes "churn") rows × AsksToChurn (value_among rows) request
 
 -- the command makes no request
 pub record MakesNone (met : Option (Text × List Row)) : Type 0 where
   pub replay : (rows : List Row) → IsMet met (codes "replay") rows → ⊥
   pub create : (rows : List Row) → IsMet met (codes "create") rows → LacksValue (value_among rows)
   pub serve : (rows : List Row) → IsMet met (codes "serve") rows → LacksServeValue (value_among rows)
+  pub churn : (rows : List Row) → IsMet met (codes "churn") rows → HasBadNumber (value_among rows)

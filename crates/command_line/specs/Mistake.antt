@@ -1,14 +1,16 @@
 -- Contract: when what is told of a faulty command line is true of its words.
 use Rattle.std.specs.Prelude.{◌≡◌, ◌≢◌, ◌⊎◌, ◌+◌, ◌*◌, ◌<◌, ◌==◌, ◌&&◌, ℕ, Bool, true, false, not, if◌then◌else◌, List, [], ◌∷◌}
-use Rattle.std.specs.Prelude.{◌++◌, Option, Some, None, codes, drop, map, take}
+use Rattle.std.specs.Prelude.{◌++◌, Option, Some, None, codes, drop, filter, is_some, map, take}
 use Rattle.std.specs.List.{All, before_first, list_any}
 use Rattle.std.specs.Str.{bytes_eq}
-use Rattle.clap.specs.Walk.{Row, Text, rule_of}
+use Rattle.clap.specs.Walk.{Row, Rule, Text, rule_of}
 use Rattle.clap.specs.Facts.{args_of}
 use Rattle.clap.specs.declared.builder.command.Command.{Command}
 use Rattle.clap.specs.declared.builder.command.Command.TheViews.{out-Command}
 use Rattle.uuid.specs.Text.{parsed}
-use Rattle.command_line.specs.CommandLine.{HasBadOptions, IsAskedBy, IsFaulty, Line, Spells, commands, create, replay, serve}
+use Rattle.command_line.specs.Churn.{churn_value}
+use Rattle.command_line.specs.CommandLine.{HasBadOptions, IsAskedBy, IsFaulty, Line, Spells, churn, commands, create, replay}
+use Rattle.command_line.specs.CommandLine.{serve}
 use Rattle.command_line.specs.Create.{create_options, value_in}
 use Rattle.command_line.specs.Met.{IsMet, value_among}
 use Rattle.command_line.specs.Options.{CommandOption, flag, is_required, option_name, rule_for, takes_value}
@@ -17,7 +19,7 @@ use Rattle.command_line.specs.Values.{IsNumber, LacksBetween}
 use Rattle.command_line.specs.declared.mistake.Mistake.{Mistake}
 use Rattle.command_line.specs.declared.mistake.Mistake.TheVariants.{NoCommand, UnknownCommand, UnknownOption, StrayWord, NoValue}
 use Rattle.command_line.specs.declared.mistake.Mistake.TheVariants.{FlagValue, Twice, Missing, EmptyValue, NoNumber, NoUuid}
-use Rattle.command_line.specs.declared.mistake.Mistake.TheVariants.{ShortLog, Other}
+use Rattle.command_line.specs.declared.mistake.Mistake.TheVariants.{ShortLog, BadNumber, MissingWord, Other}
 use Rattle.command_line.specs.declared.request.Request.{Request}
 
 -- the words are a line that asks for something, and they are refused
@@ -75,6 +77,8 @@ IsTrueOfOptions name command words (Twice option) =
     × ((at : ℕ) × (is_given option.now (take at words) ≡ true) × (is_given option.now (drop at words) ≡ true))
 IsTrueOfOptions name command words (Missing option) =
     (has_option is_required option.now command ≡ true) × (is_given option.now words ≡ false)
+-- it asks for more words than there are; how many is not said here
+IsTrueOfOptions name command words (MissingWord of_command) = of_command.now ≡ name
 IsTrueOfOptions name command words Other = Unit {0}
 IsTrueOfOptions name command words _ = ⊥
 
@@ -94,6 +98,8 @@ IsTrueOfValues value (NoUuid option text) = (value option.now ≡ Some text.now)
 IsTrueOfValues value (ShortLog log least) =
     (max_write : ℕ) × IsNumber value (codes "max-write") max_write × IsNumber value (codes "log") log
     × (least ≡ 2 * (max_write + 1)) × (log < least)
+IsTrueOfValues value (BadNumber name text least most) =
+    (value name.now ≡ Some text.now) × LacksBetween value name.now least most
 IsTrueOfValues value _ = ⊥
 
 -- the values that a line gives
@@ -101,6 +107,7 @@ abbrev pub line_value : Line → Text → Option Text
 line_value replay name = None
 line_value (create options) name = value_in options name
 line_value (serve options) name = serve_value options name
+line_value (churn steps seed) name = churn_value steps seed name
 
 -- ---- what is said
 
@@ -117,11 +124,16 @@ pub data IsTrueOf (words : List Text) (mistake : Mistake) : Type 0 where
 abbrev pub IsTrueOfMet : Option (Text × List Row) → Mistake → Type 0
 IsTrueOfMet met mistake =
     ((rows : List Row) × IsMet met (codes "create") rows × IsTrueOfValues (value_among rows) mistake)
-    ⊎ ((rows : List Row) × IsMet met (codes "serve") rows × IsTrueOfValues (value_among rows) mistake)
+    ⊎ (((rows : List Row) × IsMet met (codes "serve") rows × IsTrueOfValues (value_among rows) mistake)
+    ⊎ ((rows : List Row) × IsMet met (codes "churn") rows × IsTrueOfValues (value_among rows) mistake))
+
+-- a rule of clap is that of an option: it has a name before its value
+abbrev pub is_named : Rule → Bool
+is_named rule = is_some rule.long
 
 -- clap has these options of the command, beside its own
 abbrev pub HasOptions : Command → List CommandOption → Type 0
-HasOptions command options = map rule_of (args_of command) ≡ map rule_for options
+HasOptions command options = filter is_named (map rule_of (args_of command)) ≡ map rule_for options
 
 abbrev pub with_help : List CommandOption → List CommandOption
 with_help options = flag (codes "help") ∷ options

@@ -1,6 +1,7 @@
 -- Contract: the commands of the program, as clap reads them.
 use Rattle.std.specs.Prelude.{[], codes, map, true}
 use Rattle.clap.specs.Simple.{App, Shape, new_shape, with_subcommand}
+use Rattle.command_line.specs.Churn.{churn_rules}
 use Rattle.command_line.specs.Create.{create_options}
 use Rattle.command_line.specs.Options.{rule_for}
 use Rattle.command_line.specs.Serve.{serve_options}
@@ -14,6 +15,10 @@ create = record (new_shape (codes "create")) { rules = map rule_for create_optio
 
 abbrev pub serve : Shape
 serve = record (new_shape (codes "serve")) { rules = map rule_for serve_options }
+
+-- `churn` has no options, but two words that have their places
+abbrev pub churn : Shape
+churn = record (new_shape (codes "churn")) { rules = churn_rules }
 
 -- The program asks for one of its commands. It has a version, and no command `help`. Its own name is not
 -- among the words.
@@ -30,4 +35,4 @@ bare = record {
 
 -- the program with all its commands
 unfoldable pub lsvdctl : App
-lsvdctl = with_subcommand (with_subcommand (with_subcommand bare replay) create) serve
+lsvdctl = with_subcommand (with_subcommand (with_subcommand (with_subcommand bare replay) create) serve) churn

@@ -3,6 +3,7 @@ ghost use Rattle.clap.specs.Words.{found_of, rows_of, subcommand_rows_of};
 ghost use Rattle.command_line.specs.Met.{value_among};
 ghost use Rattle.command_line.specs.Mistake.{IsTrueOfMet, IsTrueOfValues};
 
+use crate::churn::MAX_STEPS;
 use crate::mistake::Mistake;
 use crate::serve::{MAX_LANES, MAX_SESSIONS, MAX_WORKERS};
 use crate::values::{number_between, number_in, uuid_in};
@@ -17,6 +18,7 @@ pub(crate) fn bad_value_in<'a>(matches: &ArgMatches<'a>) -> Option<Mistake<'a>>
     match command {
         "create" => bad_value_to_create(values),
         "serve" => bad_value_to_serve(values),
+        "churn" => bad_word_to_churn(values),
         _ => None,
     }
 }
@@ -57,6 +59,33 @@ fn bad_value_to_serve<'a>(values: &ArgMatches<'a>) -> Option<Mistake<'a>>
         }
     }
     None
+}
+
+fn bad_word_to_churn<'a>(values: &ArgMatches<'a>) -> Option<Mistake<'a>>
+    ensures { IfSome result (IsTrueOfValues (value_among (rows_of (found_of values.now)))) }
+{
+    for (name, most) in [("steps", MAX_STEPS), ("seed", u64::MAX)] {
+        if let Some(mistake) = bad_word(values, name, most) {
+            return Some(mistake);
+        }
+    }
+    None
+}
+
+// What is wrong with a word that is to be a number of at most `most`.
+fn bad_word<'a>(values: &ArgMatches<'a>, name: &'a str, most: u64) -> Option<Mistake<'a>>
+    ensures { IfSome result (IsTrueOfValues (value_among (rows_of (found_of values.now)))) }
+{
+    let value = values.get_str(name)?;
+    match number_between(values, name, 0, most) {
+        Some(_) => None,
+        None => Some(Mistake::BadNumber {
+            name,
+            value,
+            least: 0,
+            most,
+        }),
+    }
 }
 
 // What is wrong with the value of an option that wants a number from `least` to `most`.

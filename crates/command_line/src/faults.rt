@@ -31,20 +31,38 @@ pub(crate) fn fault_in<'a>(alloc: Global, words: &'a [String]) -> Result<Mistake
     Ok(mistake)
 }
 
-// The mistake in the words after the command's name.
+// The mistake in the words after the command's name. Where it has words of its own, the first ones that are
+// no options are those.
 fn fault_of_command<'a>(command: &Command<'a>, words: &'a [String]) -> Mistake<'a>
     ensures { IsTrueOfCommand command.now (map string_bytes words.now) result }
 {
+    let mut places = places_of(command);
     for at in 1..words.len() {
-        if let Some(mistake) = fault_at(command, words, at) {
-            return mistake;
+        match fault_at(command, words, at) {
+            Some(Mistake::StrayWord { .. }) if 0 < places => places -= 1,
+            Some(mistake) => return mistake,
+            None => {}
         }
+    }
+    if 0 < places {
+        return Mistake::MissingWord {
+            command: command.get_name(),
+        };
     }
     missing_in(command, words).unwrap_or(Mistake::Other)
 }
 
-// What is wrong with the word at this place. A value that is a word of its own does not look like an option,
-// so the word before it tells what it is.
+// How many words of its own the command has.
+fn places_of(command: &Command<'_>) -> usize {
+    command
+        .get_arguments()
+        .iter()
+        .filter(|argument| argument.get_long().is_none())
+        .count()
+}
+
+// What is wrong with the word at this place, where the command has no words of its own. A value that is a
+// word of its own does not look like an option, so the word before it tells what it is.
 fn fault_at<'a>(command: &Command<'a>, words: &'a [String], at: usize) -> Option<Mistake<'a>>
     requires first { 0 < at }
     requires inside { at < length words.now }
@@ -52,7 +70,7 @@ fn fault_at<'a>(command: &Command<'a>, words: &'a [String], at: usize) -> Option
 {
     let word = words[at].as_str();
     let before = words[at - 1].as_str();
-    if before != END {
+    if !is_ended(&words[..at]) {
         if word == END {
             return None;
         }
@@ -67,6 +85,11 @@ fn fault_at<'a>(command: &Command<'a>, words: &'a [String], at: usize) -> Option
         command: command.get_name(),
         word,
     })
+}
+
+// Whether one of the words ends the options.
+fn is_ended(words: &[String]) -> bool {
+    words.iter().any(|word| word.as_str() == END)
 }
 
 // What is wrong with a word that looks like an option.

@@ -7,6 +7,7 @@
 #![tactic(auto)]
 
 mod bad_values;
+mod churn;
 mod create;
 mod faults;
 mod help;
@@ -19,6 +20,7 @@ mod request;
 mod serve;
 mod values;
 
+pub use churn::ChurnRequest;
 pub use create::CreateRequest;
 pub use help::help_of;
 pub use laws::{a_command_line_spells_a_request, the_help_options_ask_for_help};

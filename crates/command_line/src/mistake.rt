@@ -67,6 +67,17 @@ pub enum Mistake<'a> {
         log: u64,
         least: u64,
     },
+    /// A word of a command that has words of its own is no number in decimal digits within its limits.
+    BadNumber {
+        name: &'a str,
+        value: &'a str,
+        least: u64,
+        most: u64,
+    },
+    /// A command that has words of its own has too few.
+    MissingWord {
+        command: &'a str,
+    },
     /// The words are refused for another cause.
     Other,
 }
@@ -75,11 +86,11 @@ impl fmt::Display for Mistake<'_> {
     fn fmt<W: fmt::Write>(&self, f: &mut fmt::Formatter<W>) -> fmt::Result {
         match self {
             Mistake::NoCommand => {
-                f.write_str("no command is given; the commands are replay, create and serve")
+                f.write_str("no command is given; the commands are replay, create, serve and churn")
             }
             Mistake::UnknownCommand { word } => write!(
                 f,
-                "there is no command {word:?}; the commands are replay, create and serve"
+                "there is no command {word:?}; the commands are replay, create, serve and churn"
             ),
             Mistake::UnknownOption { command, option } => {
                 write!(f, "there is no option {option:?} of {command}")
@@ -100,6 +111,13 @@ impl fmt::Display for Mistake<'_> {
             } => write_no_number(f, option, value, *least, *most),
             Mistake::NoUuid { option, value } => write!(f, "--{option} {value:?} is no uuid"),
             Mistake::ShortLog { log, least } => write_short_log(f, *log, *least),
+            Mistake::BadNumber {
+                name,
+                value,
+                least,
+                most,
+            } => write_bad_number(f, name, value, *least, *most),
+            Mistake::MissingWord { command } => write!(f, "a word is missing after {command}"),
             Mistake::Other => f.write_str("the words are no command line"),
         }
     }
@@ -126,6 +144,16 @@ fn write_no_number<W: fmt::Write>(
         f,
         "--{option} {value:?} is no number from {least} to {most}"
     )
+}
+
+fn write_bad_number<W: fmt::Write>(
+    f: &mut fmt::Formatter<W>,
+    name: &str,
+    value: &str,
+    least: u64,
+    most: u64,
+) -> fmt::Result {
+    write!(f, "{name} {value:?} is no number from {least} to {most}")
 }
 
 fn write_short_log<W: fmt::Write>(f: &mut fmt::Formatter<W>, log: u64, least: u64) -> fmt::Result {

@@ -4,6 +4,7 @@ ghost use Rattle.clap.specs.declared.builder.command.Command.TheViews.{out-Comma
 ghost use Rattle.command_line.specs.Program.{bare, lsvdctl, replay};
 ghost use Rattle.command_line.specs.CommandLine.{faults_of};
 
+use crate::churn::churn_command;
 use crate::create::create_command;
 use crate::serve::serve_command;
 use clap::{ArgMatches, Command, Error};
@@ -38,7 +39,12 @@ pub(crate) fn program<'a>(alloc: Global) -> Result<Command<'a>, AllocError>
         drop(program);
         return Err(AllocError);
     };
-    program.subcommand(serve)
+    let program = program.subcommand(serve)?;
+    let Ok(churn) = churn_command(alloc) else {
+        drop(program);
+        return Err(AllocError);
+    };
+    program.subcommand(churn)
 }
 
 // The program without its commands.

@@ -1,5 +1,5 @@
-ghost use Rattle.std.specs.Prelude.{◌≡◌, ◌≢◌, ◌⊎◌, ◌<◌, ◌+◌, ◌*◌, List, ℕ, [], ◌∷◌, map, codes, string_bytes};
-ghost use Rattle.std.specs.Prelude.{IfOk, IfSome, IfNone, IsErrOf};
+ghost use Rattle.std.specs.Prelude.{◌≡◌, ◌≢◌, ◌⊎◌, ◌<◌, ◌≤◌, ◌+◌, ◌*◌, ◌^◌, List, ℕ, [], ◌∷◌, map, codes};
+ghost use Rattle.std.specs.Prelude.{IfOk, IfSome, IfNone, IsErrOf, decimal, string_bytes};
 ghost use Rattle.std.specs.List.{All, flat_map};
 ghost use Rattle.clap.specs.Words.{kind_of, subcommand_rows_of};
 ghost use Rattle.clap.specs.declared.error.kind.ErrorKind.TheVariants as kinds;
@@ -12,6 +12,7 @@ ghost use Rattle.command_line.specs.Options.{Given, option_words};
 ghost use Rattle.command_line.specs.Serve.{AreValidToServe, serve_value};
 ghost use Rattle.command_line.specs.Values.{IsNoUuid};
 
+use crate::churn::{ChurnRequest, churn_in};
 use crate::create::{CreateRequest, create_in};
 use crate::program::matches_of;
 use crate::serve::{ServeRequest, serve_in};
@@ -29,6 +30,8 @@ pub enum Request<'a> {
     Create(CreateRequest<'a>),
     /// Serve a volume.
     Serve(ServeRequest<'a>),
+    /// Run a script that is generated.
+    Churn(ChurnRequest),
 }
 
 /// Why a command line was not read.
@@ -73,6 +76,11 @@ pub fn request_of<'a>(alloc: Global, words: &'a [String]) -> Result<Request<'a>,
     ensures serve_valid { (options : List Given) → AreValidToServe options
         → map string_bytes words.now ≡ codes "serve" ∷ flat_map option_words options
         → IsErrOf result CommandLineError.Usage → IsNoUuid (serve_value options) (codes "volume") }
+
+    // Two numbers in their limits, in decimal digits, are not refused of `churn`.
+    ensures churn_valid { (steps seed : ℕ) → steps ≤ 1000000 → seed < 2 ^ 64
+        → map string_bytes words.now ≡ codes "churn" ∷ decimal steps ∷ decimal seed ∷ []
+        → IsErrOf result CommandLineError.Usage → ⊥ }
 {
     let matches = match matches_of(alloc, words) {
         Ok(matches) => matches,
@@ -98,6 +106,10 @@ pub(crate) fn request_in<'a>(matches: &ArgMatches<'a>) -> Option<Request<'a>>
         },
         "serve" => match serve_in(values) {
             Some(request) => Some(Request::Serve(request)),
+            None => None,
+        },
+        "churn" => match churn_in(values) {
+            Some(request) => Some(Request::Churn(request)),
             None => None,
         },
         _ => None,

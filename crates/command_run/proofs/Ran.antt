@@ -1,22 +1,28 @@
 -- What a run is, by what its words were read as.
-use Rattle.std.proofs.Common.{◌≡◌, ◌⊎◌, ℕ, List, inl, inr, refl}
+use Rattle.std.proofs.Common.{◌≡◌, ◌⊎◌, ℕ, List, inl, inr, refl, subst, sym}
 use Rattle.std.specs.Prelude.{Option, Ok, Err}
 use Rattle.clap.specs.Walk.{Text}
-use Rattle.command_line.specs.CommandLine.{HasBadOptions, IsFaulty, IsRead, IsRefused, Line, Spells, replay, create, serve}
+use Rattle.command_line.specs.Churn.{AsksToChurn, churn_value}
+use Rattle.command_line.specs.CommandLine.{HasBadOptions, IsFaulty, IsRead, IsRefused, Line, Spells, replay, create, serve, churn}
 use Rattle.command_line.specs.Create.{AsksToCreate, value_in}
 use Rattle.command_line.specs.Options.{Given}
 use Rattle.command_line.specs.Serve.{AsksToServe, serve_value}
+use Rattle.command_line.specs.declared.churn.ChurnRequest.{ChurnRequest}
 use Rattle.command_line.specs.declared.create.CreateRequest.{CreateRequest}
 use Rattle.command_line.specs.declared.serve.ServeRequest.{ServeRequest}
 use Rattle.command_line.specs.declared.request.CommandLineError.TheVariants as errors
 use Rattle.command_line.specs.declared.request.Request.{Request}
-use Rattle.command_line.specs.declared.request.Request.TheVariants.{Replay, Create, Serve}
+use Rattle.command_line.specs.declared.request.Request.TheVariants.{Replay, Create, Serve, Churn}
 use Rattle.vol_replay.proofs.Results.{nothing_for_source}
 use Rattle.volume_commands.specs.Creating.{TellsCreation}
 use Rattle.volume_commands.specs.Serving.{TellsServing}
 use Rattle.volume_commands.specs.Report.{status_of}
 use Rattle.volume_commands.specs.World.{CountsOneOf}
-use Rattle.command_run.specs.Run.{AreWordsRefused, CountsOneOfAll, Runs, RunsCreate, RunsReplay, RunsServe}
+use Rattle.vol_replay.specs.declared.outcome.ChurnOutcome.{ChurnOutcome}
+use Rattle.vol_replay.specs.declared.outcome.ChurnOutcome.TheVariants as churn_outcomes
+use Rattle.vol_replay.specs.Churn.{IsOutcomeOfChurn}
+use Rattle.command_run.specs.Run.{AreWordsRefused, CountsOneOfAll, Runs, RunsChurn, RunsCreate, RunsReplay, RunsServe}
+use Rattle.command_run.specs.Run.{TellsChurn, report_of_churn}
 use Rattle.volume_commands.proofs.Told.{nothing_told}
 use Rattle.volume_commands.specs.declared.report.Report.{Report}
 use Rattle.volume_commands.specs.declared.report.Report.TheVariants.{Done, Fault, Usage, BadLine, Refused, Memory}
@@ -33,6 +39,7 @@ runs_as_replay words report input old new read refused done = record {
   replay = λ spelled. done;
   create = λ options spelled. absurd (read (create options) spelled);
   serve = λ options spelled. absurd (read (serve options) spelled);
+  churn = λ steps seed spelled. absurd (read (churn steps seed) spelled);
   faulty = λ faulty. absurd (not_refused Replay (refused faulty));
 }
 
@@ -52,6 +59,7 @@ runs_as_create words request report input old new read refused tells = record {
   replay = λ spelled. absurd (read replay spelled);
   create = λ options spelled. told_creation options request report old new (read (create options) spelled) tells;
   serve = λ options spelled. absurd (read (serve options) spelled);
+  churn = λ steps seed spelled. absurd (read (churn steps seed) spelled);
   faulty = λ faulty. absurd (not_refused (Create request) (refused faulty));
 }
 
@@ -71,7 +79,41 @@ runs_as_serve words request report input old new read refused tells = record {
   replay = λ spelled. absurd (read replay spelled);
   create = λ options spelled. absurd (read (create options) spelled);
   serve = λ options spelled. told_serving options request report old new (read (serve options) spelled) tells;
+  churn = λ steps seed spelled. absurd (read (churn steps seed) spelled);
   faulty = λ faulty. absurd (not_refused (Serve request) (refused faulty));
+}
+
+-- what an outcome of a churn wrote is told by its report
+told_by_outcome : (request : ChurnRequest) (outcome : ChurnOutcome) (old new : Option (List ℕ))
+    → IsOutcomeOfChurn request.seed request.steps old new outcome → TellsChurn request (report_of_churn outcome) old new
+told_by_outcome request (churn_outcomes.Done rig) old new (text, last, churned, shows, taken) = (text, last, churned, taken)
+told_by_outcome request churn_outcomes.WriteFault old new written = written
+told_by_outcome request churn_outcomes.OutOfMemory old new written = written
+
+pub churn_told : (request : ChurnRequest) (outcome : ChurnOutcome) (report : Report) (old new : Option (List ℕ))
+    → report ≡ report_of_churn outcome → IsOutcomeOfChurn request.seed request.steps old new outcome
+    → TellsChurn request report old new
+churn_told request outcome report old new is written =
+    subst (λ r. TellsChurn request r old new) (sym is) (told_by_outcome request outcome old new written)
+
+told_churn : (steps seed : List ℕ) (request : ChurnRequest) (report : Report) (old new : Option (List ℕ))
+    → AsksToChurn (churn_value steps seed) request → TellsChurn request report old new → RunsChurn steps seed report old new
+told_churn steps seed request Done old new asks tells = (request, asks, tells)
+told_churn steps seed request Fault old new asks tells = (request, asks, tells)
+told_churn steps seed request Usage old new asks tells = absurd tells
+told_churn steps seed request (BadLine number reason) old new asks tells = (request, asks, tells)
+told_churn steps seed request (Refused why) old new asks tells = (request, asks, tells)
+told_churn steps seed request Memory old new asks tells = tells
+
+pub runs_as_churn : (words : List Text) (request : ChurnRequest) (report : Report) (input old new : Option (List ℕ))
+    → ((line : Line) → Spells words line → IsRead line (Ok (Churn request))) → (IsFaulty words → IsRefused (Ok (Churn request)))
+    → TellsChurn request report old new → Runs words report input old new
+runs_as_churn words request report input old new read refused tells = record {
+  replay = λ spelled. absurd (read replay spelled);
+  create = λ options spelled. absurd (read (create options) spelled);
+  serve = λ options spelled. absurd (read (serve options) spelled);
+  churn = λ steps seed spelled. told_churn steps seed request report old new (read (churn steps seed) spelled) tells;
+  faulty = λ faulty. absurd (not_refused (Churn request) (refused faulty));
 }
 
 pub runs_as_usage : (words : List Text) (input old : Option (List ℕ))
@@ -80,6 +122,7 @@ runs_as_usage words input old read = record {
   replay = λ spelled. absurd (read replay spelled);
   create = λ options spelled. (read (create options) spelled, refl);
   serve = λ options spelled. (read (serve options) spelled, refl);
+  churn = λ steps seed spelled. (read (churn steps seed) spelled, refl);
   faulty = λ faulty. (inl refl, refl);
 }
 
@@ -88,6 +131,7 @@ runs_as_memory words input old = record {
   replay = λ spelled. nothing_for_source input old;
   create = λ options spelled. refl;
   serve = λ options spelled. nothing_told old;
+  churn = λ steps seed spelled. refl;
   faulty = λ faulty. (inr refl, refl);
 }
 
@@ -96,7 +140,8 @@ pub are_refused : (words : List Text) → IsFaulty words ⊎ ((line : Line) × S
 are_refused words (inl faulty) = inl faulty
 are_refused words (inr (replay, spelled, nothing)) = absurd nothing
 are_refused words (inr (create options, spelled, bad)) = inr (inl (options, spelled, bad))
-are_refused words (inr (serve options, spelled, bad)) = inr (inr (options, spelled, bad))
+are_refused words (inr (serve options, spelled, bad)) = inr (inr (inl (options, spelled, bad)))
+are_refused words (inr (churn steps seed, spelled, bad)) = inr (inr (inr (steps, seed, spelled, bad)))
 
 -- one call of the world or of the output failed, and none of the input
 pub one_of_all : (world_before world_now input out_before out_now : ℕ)
@@ -111,3 +156,11 @@ usage_of_status Usage is = refl
 usage_of_status (BadLine number reason) is = cc
 usage_of_status (Refused why) is = cc
 usage_of_status Memory is = cc
+
+pub fault_of_status : (report : Report) → status_of report ≡ 1 → report ≡ Fault
+fault_of_status Done is = cc
+fault_of_status Fault is = refl
+fault_of_status Usage is = cc
+fault_of_status (BadLine number reason) is = cc
+fault_of_status (Refused why) is = cc
+fault_of_status Memory is = cc

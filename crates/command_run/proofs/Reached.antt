@@ -5,9 +5,10 @@ use Rattle.clap.specs.Walk.{Text}
 use Rattle.lsvd_device.specs.Device.{DiskState}
 use Rattle.lsvd_objstore.specs.Store.{ReceiptState}
 use Rattle.command_line.specs.CommandLine.{IsRead, Line, Spells, create, serve}
+use Rattle.command_line.specs.declared.churn.ChurnRequest.{ChurnRequest}
 use Rattle.command_line.specs.declared.create.CreateRequest.{CreateRequest}
 use Rattle.command_line.specs.declared.serve.ServeRequest.{ServeRequest}
-use Rattle.command_line.specs.declared.request.Request.TheVariants.{Replay, Create, Serve}
+use Rattle.command_line.specs.declared.request.Request.TheVariants.{Replay, Create, Serve, Churn}
 use Rattle.volume_server.specs.Serving.{ListenerState, ConnectionState}
 use Rattle.volume_commands.specs.Creating.{Creates, RefusesToCreate}
 use Rattle.volume_commands.specs.Mounting.{Serves, RefusesFor}
@@ -25,6 +26,15 @@ module _ {D R L K : Type 0} (tells : Bool) (disk_state : D → DiskState) (recei
 
   pub reaches_by_replay : ((line : Line) → Spells words line → IsRead line (Ok Replay)) → reaches
   reaches_by_replay read = record {
+    creates = λ options spelled is. absurd (read (create options) spelled);
+    creates_none = λ options why spelled is. absurd (read (create options) spelled);
+    serves = λ options spelled is. absurd (read (serve options) spelled);
+    serves_none = λ options why spelled is. absurd (read (serve options) spelled);
+  }
+
+  pub reaches_by_churn : (request : ChurnRequest) → ((line : Line) → Spells words line → IsRead line (Ok (Churn request)))
+      → reaches
+  reaches_by_churn request read = record {
     creates = λ options spelled is. absurd (read (create options) spelled);
     creates_none = λ options why spelled is. absurd (read (create options) spelled);
     serves = λ options spelled is. absurd (read (serve options) spelled);

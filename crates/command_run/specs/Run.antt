@@ -7,12 +7,19 @@ use Rattle.lsvd_objstore.specs.Store.{ReceiptState}
 use Rattle.clap.specs.Walk.{Text}
 use Rattle.transcript.specs.Answers.{State}
 use Rattle.transcript.specs.Transcript.{AllAnswered, Stopped, IsTranscript, IsFrontOfTranscript}
-use Rattle.command_line.specs.CommandLine.{IsFaulty, Spells, replay, create, serve}
+use Rattle.command_line.specs.Churn.{AsksToChurn, HasBadNumber, churn_value}
+use Rattle.command_line.specs.CommandLine.{IsFaulty, Spells, replay, create, serve, churn}
 use Rattle.command_line.specs.Create.{AsksToCreate, HasBadValue, value_in}
 use Rattle.command_line.specs.Options.{Given}
 use Rattle.command_line.specs.Serve.{AsksToServe, HasBadServeValue, serve_value}
+use Rattle.command_line.specs.declared.churn.ChurnRequest.{ChurnRequest}
 use Rattle.command_line.specs.declared.create.CreateRequest.{CreateRequest}
 use Rattle.command_line.specs.declared.serve.ServeRequest.{ServeRequest}
+use Rattle.plain_disk.specs.State.{PlainState}
+use Rattle.vol_replay.specs.Churn.{IsChurn}
+use Rattle.vol_replay.specs.Written.{TakesFront}
+use Rattle.vol_replay.specs.declared.outcome.ChurnOutcome.{ChurnOutcome}
+use Rattle.vol_replay.specs.declared.outcome.ChurnOutcome.TheVariants as churn_outcomes
 use Rattle.vol_replay.specs.declared.outcome.Outcome.{Outcome}
 use Rattle.vol_replay.specs.declared.outcome.Outcome.TheVariants as outcomes
 use Rattle.volume_server.specs.Serving.{ListenerState, ConnectionState}
@@ -52,6 +59,34 @@ abbrev pub RunsReplay : Report → (input : Option (List ℕ)) → (old new : Op
 RunsReplay report input old new =
     IfSome input (λ script. (text : List ℕ) × Appends old new text × IsReported script text report)
 
+-- ---- churns
+
+-- how an outcome of a churn is reported
+abbrev pub report_of_churn : ChurnOutcome → Report
+report_of_churn (churn_outcomes.Done rig) = Done
+report_of_churn churn_outcomes.WriteFault = Fault
+report_of_churn churn_outcomes.OutOfMemory = Memory
+
+-- the output took the summary of the generated script's run on the plain volume, or after a fault a front of it; where memory ran
+-- out, nothing
+abbrev pub TellsChurn : ChurnRequest → Report → (old new : Option (List ℕ)) → Type 0
+TellsChurn request Done old new =
+    (text : List ℕ) × (last : PlainState) × IsChurn request.seed request.steps text last × Appends old new text
+TellsChurn request Fault old new =
+    (text : List ℕ) × (last : PlainState) × IsChurn request.seed request.steps text last × TakesFront old new text
+TellsChurn request Memory old new = new ≡ old
+-- a churn does not end so
+TellsChurn request Usage old new = ⊥
+TellsChurn request (BadLine number reason) old new = ⊥
+TellsChurn request (Refused why) old new = ⊥
+
+-- the words ask for a churn, and the output took what is told of it; or they ask for nothing, or memory ran out
+abbrev pub RunsChurn : (steps seed : List ℕ) → Report → (old new : Option (List ℕ)) → Type 0
+RunsChurn steps seed Usage old new = HasBadNumber (churn_value steps seed) × (new ≡ old)
+RunsChurn steps seed Memory old new = new ≡ old
+RunsChurn steps seed report old new =
+    (request : ChurnRequest) × AsksToChurn (churn_value steps seed) request × TellsChurn request report old new
+
 -- ---- creations
 
 -- the values of these options ask for a volume, and the output took what it is told with; or they ask for nothing, or
@@ -79,14 +114,17 @@ pub record Runs (words : List Text) (report : Report) (input old new : Option (L
   pub replay : Spells words replay → RunsReplay report input old new
   pub create : (options : List Given) → Spells words (create options) → RunsCreate options report old new
   pub serve : (options : List Given) → Spells words (serve options) → RunsServe options report old new
+  pub churn : (steps seed : List ℕ) → Spells words (churn steps seed) → RunsChurn steps seed report old new
   pub faulty : IsFaulty words → ((report ≡ Usage) ⊎ (report ≡ Memory)) × (new ≡ old)
 
--- why words are refused: they are faulty, or the values of the options of `create` or `serve` ask for nothing
+-- why words are refused: they are faulty, or the values of the options of `create` or `serve`, or the words of `churn`, ask for
+-- nothing
 abbrev pub AreWordsRefused : List Text → Type 0
 AreWordsRefused words =
     IsFaulty words
     ⊎ (((options : List Given) × Spells words (create options) × HasBadValue (value_in options))
-    ⊎ ((options : List Given) × Spells words (serve options) × HasBadServeValue (serve_value options)))
+    ⊎ (((options : List Given) × Spells words (serve options) × HasBadServeValue (serve_value options))
+    ⊎ ((steps : List ℕ) × (seed : List ℕ) × Spells words (churn steps seed) × HasBadNumber (churn_value steps seed))))
 
 -- ---- what stands at the paths
 

@@ -1,21 +1,24 @@
-ghost use Rattle.std.specs.Prelude.{◌≡◌, ◌≢◌, ◌⊎◌, ◌<◌, ◌+◌, ◌*◌, List, ℕ, [], ◌∷◌, map, codes, string_bytes};
+ghost use Rattle.std.specs.Prelude.{◌≡◌, ◌≢◌, ◌⊎◌, ◌<◌, ◌≤◌, ◌+◌, ◌*◌, ◌^◌, List, ℕ, [], ◌∷◌, map, codes};
+ghost use Rattle.std.specs.Prelude.{decimal, string_bytes};
 ghost use Rattle.std.specs.Io.KnownBytes.{IsAtEnd};
 ghost use Rattle.std.specs.List.{flat_map};
 ghost use Rattle.lsvd_base.specs.declared.geometry.Geometry.{Geometry};
-ghost use Rattle.command_line.specs.CommandLine.{IsFaulty, Spells, replay, create, serve};
+ghost use Rattle.command_line.specs.CommandLine.{IsFaulty, Spells, replay, create, serve, churn};
 ghost use Rattle.command_line.specs.Create.{AreValid, HasBadUuid, value_in};
 ghost use Rattle.command_line.specs.Options.{Given, option_words};
 ghost use Rattle.command_line.specs.Serve.{AreValidToServe, serve_value};
 ghost use Rattle.command_line.specs.Values.{IsNoUuid};
 ghost use Rattle.volume_commands.specs.Report.{status_of, line_of, IsTold};
+ghost use Rattle.lsvd_fault.specs.Faults.{CountsOne};
 ghost use Rattle.volume_commands.specs.World.{CountsNone, CountsOneOf};
 ghost use Rattle.command_run.specs.Run.{AreWordsRefused, CountsOneOfAll, Reaches, Runs, report_of};
+ghost use Rattle.command_run.specs.Run.{report_of_churn};
 ghost use Rattle.volume_commands.specs.World.{IsConstant};
 ghost use Rattle.volume_server.specs.Serving.{listener_told, link_told};
 
 use command_line::{CommandLineError, Request, request_of};
 use std::alloc::Global;
-use vol_replay::{Outcome, replay};
+use vol_replay::{ChurnOutcome, Outcome, churn, replay};
 use volume_commands::{Report, World, answer_create, answer_serve};
 
 /// Runs the program on the words after its name, and answers its exit status.
@@ -23,6 +26,7 @@ use volume_commands::{Report, World, answer_create, answer_serve};
 /// `replay` reads a script from `input` and writes its transcript to `out`. `create` makes a volume in a
 /// store and a disk that the world gives, and writes its uuid to `out`. `serve` serves one to the clients
 /// that the world gives, and writes to `out` what it found when they can connect, and what stands at the end.
+/// `churn` runs a script that it generates on a volume in memory, and writes its summary to `out`.
 /// A line on `err` tells each end but a good one. Words that ask for help are faulty here: `answer_help` is
 /// asked first.
 pub fn run<W: World>(
@@ -61,9 +65,13 @@ pub fn run<W: World>(
     ensures serve_input { (options : List Given) → Spells (map string_bytes words.now) (serve options)
         → input.new ≡ input.old }
 
-    // 2 is for words that are refused, so never for the one word `replay`, and for plain options of `create`
-    // or `serve` only where a text is no uuid, or a log of `create` is too short. Then nothing was read,
-    // written or made.
+    // A churn reads no input either, and asks the world for nothing.
+    ensures churn_alone { (steps seed : List ℕ) → Spells (map string_bytes words.now) (churn steps seed)
+        → (world.new ≡ world.old) × (input.new ≡ input.old) }
+
+    // 2 is for words that are refused, so never for the one word `replay`, nor for `churn` with two numbers
+    // in their limits, and for plain options of `create` or `serve` only where a text is no uuid, or a log of
+    // `create` is too short. Then nothing was read, written or made.
     ensures usage { result ≡ 2 → AreWordsRefused (map string_bytes words.now) }
     ensures replay { map string_bytes words.now ≡ codes "replay" ∷ [] → result ≢ 2 }
     ensures valid { (options : List Given) (sizes : Geometry) → AreValid options sizes
@@ -72,6 +80,8 @@ pub fn run<W: World>(
     ensures serve_valid { (options : List Given) → AreValidToServe options
         → map string_bytes words.now ≡ codes "serve" ∷ flat_map option_words options
         → result ≡ 2 → IsNoUuid (serve_value options) (codes "volume") }
+    ensures churn_valid { (steps seed : ℕ) → steps ≤ 1000000 → seed < 2 ^ 64
+        → map string_bytes words.now ≡ codes "churn" ∷ decimal steps ∷ decimal seed ∷ [] → result ≢ 2 }
     ensures untouched { result ≡ 2 → (world.new ≡ world.old) × (input.new ≡ input.old) × (out.new ≡ out.old) }
 
     // Faulty words end with 2, or with 4 where memory ran out while they were judged, and nothing is run of
@@ -91,6 +101,8 @@ pub fn run<W: World>(
     ensures replay_fault { Spells (map string_bytes words.now) replay → result ≡ 1
         → CountsOneOf (W.In.faults input.old) (W.In.faults input.new) (W.Out.faults out.old)
         (W.Out.faults out.new) }
+    ensures churn_fault { (steps seed : List ℕ) → Spells (map string_bytes words.now) (churn steps seed)
+        → result ≡ 1 → CountsOne (W.Out.faults out.old) (W.Out.faults out.new) }
     ensures no_fault { result ≢ 1 → (W.faults world.new ≡ W.faults world.old)
         × CountsNone (W.In.faults input.old) (W.In.faults input.new) (W.Out.faults out.old)
         (W.Out.faults out.new) }
@@ -126,6 +138,8 @@ fn execute<W: World>(
         → input.new ≡ input.old }
     ensures serve_input { (options : List Given) → Spells (map string_bytes words.now) (serve options)
         → input.new ≡ input.old }
+    ensures churn_alone { (steps seed : List ℕ) → Spells (map string_bytes words.now) (churn steps seed)
+        → (world.new ≡ world.old) × (input.new ≡ input.old) }
     ensures usage { result ≡ Report.Usage → AreWordsRefused (map string_bytes words.now) }
     ensures replay { map string_bytes words.now ≡ codes "replay" ∷ [] → result ≢ Report.Usage }
     ensures valid { (options : List Given) (sizes : Geometry) → AreValid options sizes
@@ -134,6 +148,9 @@ fn execute<W: World>(
     ensures serve_valid { (options : List Given) → AreValidToServe options
         → map string_bytes words.now ≡ codes "serve" ∷ flat_map option_words options
         → result ≡ Report.Usage → IsNoUuid (serve_value options) (codes "volume") }
+    ensures churn_valid { (steps seed : ℕ) → steps ≤ 1000000 → seed < 2 ^ 64
+        → map string_bytes words.now ≡ codes "churn" ∷ decimal steps ∷ decimal seed ∷ []
+        → result ≢ Report.Usage }
     ensures untouched { result ≡ Report.Usage → (world.new ≡ world.old) × (input.new ≡ input.old)
         × (out.new ≡ out.old) }
     ensures faulty { IsFaulty (map string_bytes words.now)
@@ -147,6 +164,8 @@ fn execute<W: World>(
     ensures replay_fault { Spells (map string_bytes words.now) replay → result ≡ Report.Fault
         → CountsOneOf (W.In.faults input.old) (W.In.faults input.new) (W.Out.faults out.old)
         (W.Out.faults out.new) }
+    ensures churn_fault { (steps seed : List ℕ) → Spells (map string_bytes words.now) (churn steps seed)
+        → result ≡ Report.Fault → CountsOne (W.Out.faults out.old) (W.Out.faults out.new) }
     ensures no_fault { result ≢ Report.Fault → (W.faults world.new ≡ W.faults world.old)
         × CountsNone (W.In.faults input.old) (W.In.faults input.new) (W.Out.faults out.old)
         (W.Out.faults out.new) }
@@ -155,6 +174,9 @@ fn execute<W: World>(
         Ok(Request::Replay) => report_of(replay(alloc, input, out)),
         Ok(Request::Create(request)) => answer_create(alloc, &request, world, out),
         Ok(Request::Serve(request)) => answer_serve(alloc, &request, world, out),
+        Ok(Request::Churn(request)) => {
+            report_of_churn(churn(alloc, request.steps, request.seed, out))
+        }
         Err(CommandLineError::Usage) => Report::Usage,
         Err(CommandLineError::OutOfMemory) => Report::Memory,
     }
@@ -181,5 +203,19 @@ fn told(outcome: &Outcome) -> Report
         },
         Outcome::ReadFault | Outcome::WriteFault => Report::Fault,
         Outcome::OutOfMemory => Report::Memory,
+    }
+}
+
+// How the outcome of a churn is reported. The volume that it left is let go.
+fn report_of_churn(outcome: ChurnOutcome) -> Report
+    ensures { result ≡ report_of_churn outcome }
+{
+    match outcome {
+        ChurnOutcome::Done(rig) => {
+            drop(rig);
+            Report::Done
+        }
+        ChurnOutcome::WriteFault => Report::Fault,
+        ChurnOutcome::OutOfMemory => Report::Memory,
     }
 }

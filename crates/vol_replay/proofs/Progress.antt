@@ -11,9 +11,9 @@ use Rattle.transcript.proofs.Determined.{StopsAt}
 use Rattle.transcript.proofs.Existence.{some_transcript}
 use Rattle.vol_replay.specs.declared.outcome.Outcome.{Outcome}
 use Rattle.vol_replay.specs.declared.outcome.Outcome.TheVariants.{Done, BadLine, WriteFault, OutOfMemory}
-use Rattle.vol_replay.specs.Lines.{TakesFront, MovesOn, IsHandedOver, AnswersLine}
+use Rattle.vol_replay.specs.Lines.{MovesOn, IsHandedOver, AnswersLine}
 use Rattle.replay_rig.specs.Rig.{RigState}
-use Rattle.vol_replay.specs.Written.{ShowsState, IsOutcomeOf}
+use Rattle.vol_replay.specs.Written.{ShowsState, IsOutcomeOf, TakesFront}
 use Rattle.std.specs.Io.KnownBytes.{Appends}
 use Rattle.lsvd_fault.proofs.Streams.{appends_nothing, appends_more}
 

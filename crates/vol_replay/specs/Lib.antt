@@ -1,3 +1,5 @@
 pub mod Answers
+pub mod Churn
 pub mod Lines
+pub mod Steps
 pub mod Written

@@ -1,5 +1,5 @@
 -- For this crate's own clauses: what the steps of a replay do to the answers that are still to be written.
-use Rattle.std.specs.Prelude.{◌≡◌, ℕ, ◌≤◌, ◌⊎◌, Bool, true, false, Option, Some, None, List, [], ◌∷◌, ◌++◌, length, take}
+use Rattle.std.specs.Prelude.{◌≡◌, ℕ, ◌⊎◌, Bool, true, false, Option, Some, None, List, [], ◌∷◌, ◌++◌}
 use Rattle.std.specs.Io.KnownBytes.{Appends}
 use Rattle.replay_script.specs.declared.command.Command.{Command}
 use Rattle.replay_script.specs.declared.command.Command.TheVariants as commands
@@ -16,7 +16,7 @@ use Rattle.vol_replay.specs.declared.outcome.Outcome.{Outcome}
 use Rattle.vol_replay.specs.declared.outcome.Outcome.TheVariants as outcomes
 use Rattle.vol_replay.specs.Answers.{TellsAnswer}
 use Rattle.replay_rig.specs.Rig.{RigState}
-use Rattle.vol_replay.specs.Written.{ShowsState}
+use Rattle.vol_replay.specs.Written.{ShowsState, TakesFront}
 
 -- how many lines a rig has answered
 abbrev pub lines_answered : Option RigState → ℕ
@@ -77,10 +77,6 @@ refusal_of line_errors.Form = Bad Form
 refusal_of line_errors.OutOfMemory = OutOfMemory
 
 -- ---- the sink
-
--- the sink took a front of these bytes
-abbrev pub TakesFront : Option (List ℕ) → Option (List ℕ) → List ℕ → Type 0
-TakesFront old new bytes = (n : ℕ) × (n ≤ length bytes) × Appends old new (take n bytes)
 
 -- the sink took some of the answers, and the others are still to be written
 abbrev pub MovesOn : Option (List ℕ) → Option (List ℕ) → List ℕ → List ℕ → Type 0

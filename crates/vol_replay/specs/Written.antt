@@ -1,5 +1,6 @@
 -- Contract: what a replay wrote when it ended.
-use Rattle.std.specs.Prelude.{ℕ, Option, Some, None, Bool, true, false, List}
+use Rattle.std.specs.Prelude.{ℕ, ◌≤◌, Option, Some, None, Bool, true, false, List, length, take}
+use Rattle.std.specs.Io.KnownBytes.{Appends}
 use Rattle.transcript.specs.Answers.{State}
 use Rattle.transcript.specs.Transcript.{AllAnswered, Stopped, IsTranscript, IsFrontOfTranscript}
 use Rattle.vol_replay.specs.declared.outcome.Outcome.{Outcome}
@@ -12,6 +13,10 @@ ShowsState None None = Unit {0}
 ShowsState None (Some plain) = ⊥
 ShowsState (Some rig) None = ⊥
 ShowsState (Some rig) (Some plain) = ShowsPlain rig plain
+
+-- the sink took a front of these bytes
+abbrev pub TakesFront : Option (List ℕ) → Option (List ℕ) → List ℕ → Type 0
+TakesFront old new bytes = (n : ℕ) × (n ≤ length bytes) × Appends old new (take n bytes)
 
 -- The whole transcript where each line was answered, and the rig shows what it leaves; the answers before a bad line; and a front
 -- of the transcript after a fault or where memory ran out.

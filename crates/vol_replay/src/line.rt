@@ -323,9 +323,13 @@ fn go_on(alloc: Global, mut rig: Rig, command: Command) -> Result<(Rig, Answer),
     }
 }
 
-// Answers a command where there is a volume, which is left then. After a line that is not answered there is
-// none.
-fn answer_on(alloc: Global, rig: Rig, command: Command) -> Result<(Rig, Answer), LineRefusal>
+/// Answers a command where there is a volume, which is left then. After a line that is not answered there is
+/// none.
+pub(crate) fn answer_on(
+    alloc: Global,
+    rig: Rig,
+    command: Command,
+) -> Result<(Rig, Answer), LineRefusal>
     requires { rig.lines < 2 ^ 40 }
     ensures ok { IfOk result (λ made. AnswersCommand command made.1 (Some rig) (Some made.0)) }
     ensures refused { IfErr result (IsUnanswered (Some rig) command) }

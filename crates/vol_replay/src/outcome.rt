@@ -15,3 +15,14 @@ pub enum Outcome {
     /// Memory ran out, and the sink took a front of the transcript.
     OutOfMemory,
 }
+
+/// How a churn ended.
+#[derive(Drop)]
+pub enum ChurnOutcome {
+    /// The summary was written. The rig is as the last read left it.
+    Done(Rig),
+    /// The sink failed, and took a front of the summary.
+    WriteFault,
+    /// Memory ran out, and nothing was written.
+    OutOfMemory,
+}

@@ -1,9 +1,9 @@
 ghost use Rattle.std.specs.Prelude.{◌≡◌, ◌≢◌, ℕ, ◌^◌, ◌≤◌, List, false, length, is_err, IfSome, OnOk, OnErr};
 ghost use Rattle.std.specs.Io.KnownBytes.{Appends, IsAtEnd};
 ghost use Rattle.lsvd_fault.specs.Faults.{Counts};
-ghost use Rattle.vol_replay.specs.Lines.{TakesFront, MovesOn, IsHandedOver};
+ghost use Rattle.vol_replay.specs.Lines.{MovesOn, IsHandedOver};
 ghost use Rattle.vol_replay.specs.Written.{IsOutcomeOf, AreAllAnswered, ends_by_read_fault};
-ghost use Rattle.vol_replay.specs.Written.{ends_by_write_fault};
+ghost use Rattle.vol_replay.specs.Written.{TakesFront, ends_by_write_fault};
 
 use crate::line::{LineRefusal, answer_line};
 use crate::outcome::Outcome;

@@ -5,8 +5,12 @@ use replay_rig::Answer;
 use replay_script::{push_decimal, push_run_text};
 use std::alloc::AllocError;
 
-// Appends words and a count.
-fn push_counted(answers: &mut Vec<u8>, words: &[u8], count: u64) -> Result<(), AllocError>
+/// Appends words and a count.
+pub(crate) fn push_counted(
+    answers: &mut Vec<u8>,
+    words: &[u8],
+    count: u64,
+) -> Result<(), AllocError>
     ensures { OnOk result (answers.new.items ≡ answers.old.items ++ (words.now ++ decimal count)) }
 {
     answers.extend_from_slice(words)?;

@@ -2,7 +2,7 @@ use Rattle.std.proofs.Common.{◌≡◌, ◌∙◌, ap₂}
 use Rattle.std.proofs.lemmas.Result.{IfOk-weaker}
 use Rattle.clap.specs.Words.{app_of}
 use Rattle.clap.specs.Simple.{with_subcommand}
-use Rattle.command_line.specs.Program.{bare, create, lsvdctl, replay}
+use Rattle.command_line.specs.Program.{bare, create, lsvdctl, replay, serve}
 use Rattle.command_line.proofs.program.program.Goals as goal
 
 pub returns : goal.returns
@@ -14,5 +14,8 @@ returns c =
     let two : app_of c.in_ok-program-2.program ≡ with_subcommand (with_subcommand bare replay) create =
     c.in_ok-program-2.ensures.shape c.in-Ok.ensures.local
     ∙ ap₂ with_subcommand one c.in-Ok.ensures.shape in
-    IfOk-weaker c.subcommand-3.result _ _ (λ program added. added.shape c.in-Ok-serve_command.ensures.local
-    ∙ ap₂ with_subcommand two c.in-Ok-serve_command.ensures.shape) c.subcommand-3.ensures
+    let three : app_of c.in_ok-program-3.program ≡ with_subcommand (with_subcommand (with_subcommand bare replay) create) serve =
+    c.in_ok-program-3.ensures.shape c.in-Ok-serve_command.ensures.local
+    ∙ ap₂ with_subcommand two c.in-Ok-serve_command.ensures.shape in
+    IfOk-weaker c.subcommand-4.result _ _ (λ program added. added.shape c.in-Ok-churn_command.ensures.local
+    ∙ ap₂ with_subcommand three c.in-Ok-churn_command.ensures.shape) c.subcommand-4.ensures

@@ -1,9 +1,10 @@
 use Rattle.std.proofs.Common.{◌≡◌, ◌∙◌, ap, map, string_bytes, subst}
 use Rattle.std.specs.Prelude.{Ok, Err}
-use Rattle.command_line.specs.CommandLine.{IsRead, IsRefused}
-use Rattle.command_run.proofs.Ran.{are_refused, one_of_all, runs_as_create, runs_as_memory, runs_as_replay, runs_as_serve}
-use Rattle.command_run.proofs.Ran.{runs_as_usage}
-use Rattle.command_run.proofs.Reached.{reaches_by_replay, reaches_by_create, reaches_by_serve, reaches_nothing}
+use Rattle.command_line.specs.CommandLine.{IsRead, IsRefused, churn}
+use Rattle.command_run.proofs.Ran.{are_refused, churn_told, one_of_all, runs_as_churn, runs_as_create, runs_as_memory}
+use Rattle.command_run.proofs.Ran.{runs_as_replay, runs_as_serve, runs_as_usage}
+use Rattle.command_run.proofs.Reached.{reaches_by_churn, reaches_by_create, reaches_by_replay, reaches_by_serve}
+use Rattle.command_run.proofs.Reached.{reaches_nothing}
 use Rattle.command_run.proofs.Reported.{reported}
 use Rattle.refusals.specs.declared.refusal.Refusal.{Refusal}
 use Rattle.volume_commands.specs.declared.report.Report.TheVariants as reports
@@ -54,6 +55,17 @@ returns-in-Ok-Serve-clause-fault g c is disks stores clients =
     (g.W.Out.Sink.faults c.args.out.now) (g.W.Out.Sink.faults c.answer_serve.new.out)
     (c.answer_serve.ensures.fault is disks stores clients)
 
+pub returns-in-Ok-Churn-clause-output : goal.returns-in-Ok-Churn-clause-output
+returns-in-Ok-Churn-clause-output g c =
+    runs_as_churn (map string_bytes c.args.words.now) c.in-Ok-Churn.request c.report_of_churn.result
+    (g.W.In.Source.remaining c.args.input.now) (g.W.Out.Sink.contents c.args.out.now)
+    (g.W.Out.Sink.contents c.churn.new.sink)
+    (λ line spelled. subst (λ request. IsRead line (Ok request)) c.in-Ok-Churn.field-0-is
+    (c.in-Ok-Churn.ensures.line line spelled))
+    (λ faulty. subst (λ request. IsRefused (Ok request)) c.in-Ok-Churn.field-0-is (c.in-Ok-Churn.ensures.faulty faulty))
+    (churn_told c.in-Ok-Churn.request c.churn.result c.report_of_churn.result (g.W.Out.Sink.contents c.args.out.now)
+    (g.W.Out.Sink.contents c.churn.new.sink) c.report_of_churn.ensures c.churn.ensures.summary)
+
 pub returns-in-Err-Usage-clause-output : goal.returns-in-Err-Usage-clause-output
 returns-in-Err-Usage-clause-output g c =
     runs_as_usage (map string_bytes c.args.words.now) (g.W.In.Source.remaining c.args.input.now)
@@ -70,6 +82,18 @@ pub returns-in-Err-OutOfMemory-clause-output : goal.returns-in-Err-OutOfMemory-c
 returns-in-Err-OutOfMemory-clause-output g c =
     runs_as_memory (map string_bytes c.args.words.now) (g.W.In.Source.remaining c.args.input.now)
     (g.W.Out.Sink.contents c.args.out.now)
+
+-- words of `churn` are read as nothing else
+
+pub returns-in-Ok-Create-clause-churn_fault : goal.returns-in-Ok-Create-clause-churn_fault
+returns-in-Ok-Create-clause-churn_fault g c = λ steps seed spelled.
+    absurd (subst (λ request. IsRead (churn steps seed) (Ok request)) c.in-Ok-Create.field-0-is
+    (c.in-Ok-Create.ensures.line (churn steps seed) spelled))
+
+pub returns-in-Ok-Serve-clause-churn_fault : goal.returns-in-Ok-Serve-clause-churn_fault
+returns-in-Ok-Serve-clause-churn_fault g c = λ steps seed spelled.
+    absurd (subst (λ request. IsRead (churn steps seed) (Ok request)) c.in-Ok-Serve.field-0-is
+    (c.in-Ok-Serve.ensures.line (churn steps seed) spelled))
 
 -- ---- what stands at the paths
 
@@ -95,6 +119,14 @@ returns-in-Ok-Serve-clause-reaches g c =
     c.in-Ok-Serve.request
     (λ line spelled. subst (λ request. IsRead line (Ok request)) c.in-Ok-Serve.field-0-is
     (c.in-Ok-Serve.ensures.line line spelled)) c.answer_serve.ensures.serves c.answer_serve.ensures.why
+
+pub returns-in-Ok-Churn-clause-reaches : goal.returns-in-Ok-Churn-clause-reaches
+returns-in-Ok-Churn-clause-reaches g c =
+    reaches_by_churn g.W.World.tells (λ disk. g.W.Disk.Disk.state disk) g.W.Store.Receipt.Receipt.state _ _ _
+    (map string_bytes c.args.words.now) c.report_of_churn.result (g.W.World.clients_at c.args.world.now) _ _ _ _
+    c.in-Ok-Churn.request
+    (λ line spelled. subst (λ request. IsRead line (Ok request)) c.in-Ok-Churn.field-0-is
+    (c.in-Ok-Churn.ensures.line line spelled))
 
 not_done : reports.Usage ≡ reports.Done → ⊥
 not_done is = cc
