@@ -119,7 +119,7 @@ moments_write size synced at changes written piece held kept = one_write changes
     at kept.counted
 
 -- changes inside a disk, and one more
-inside_more : (size : ℕ) (changes : List Change) (change : Change) → LieInside size changes → LiesInside size change
+pub inside_more : (size : ℕ) (changes : List Change) (change : Change) → LieInside size changes → LiesInside size change
     → LieInside size (changes ++ change ∷ [])
 inside_more size [] change all one = (one, tt)
 inside_more size (first ∷ changes) change all one = (all.0, inside_more size changes change all.1 one)

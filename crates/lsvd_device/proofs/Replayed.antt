@@ -1,16 +1,17 @@
 -- The bytes of a disk in memory, made of its changes.
 use Rattle.std.proofs.Common.{◌≡◌, ℕ, ◌+◌, ◌-◌, ◌<◌, ◌≤◌, List, [], ◌∷◌, ◌++◌, zero, suc, length, take, drop, replicate, get_or}
-use Rattle.std.proofs.Common.{refl, sym, ◌∙◌, ap, subst, arith}
+use Rattle.std.proofs.Common.{refl, sym, ◌∙◌, ap, subst, arith, max, length-append}
 use Rattle.std.proofs.lemmas.List.{drop-drop, drop-take, take-take, take_all, take_more, length-take, length-replicate}
-use Rattle.std.proofs.lemmas.List.{drop-replicate, take-replicate}
+use Rattle.std.proofs.lemmas.List.{drop-replicate, take-replicate, length-take-le, drop_at, take-append-drop}
 use Rattle.lsvd_device.specs.Medium.{Medium, durable, after_write, after_sync}
 use Rattle.lsvd_bytes.specs.Places.{with_bytes}
-use Rattle.lsvd_device.specs.Device.{HoldsNow}
+use Rattle.lsvd_device.specs.Device.{HoldsNow, moments_after}
+use Rattle.lsvd_device.specs.Stop.{HasNow}
 use Rattle.lsvd_device.specs.Memory.{moments_from, moments_of, contents_from, bytes_written, LiesInside, LieInside, IsFrontOf}
 use Rattle.lsvd_device.specs.Memory.{IsKept}
 use Rattle.lsvd_device.specs.declared.change.Change.{Change}
 use Rattle.lsvd_device.specs.declared.change.Change.TheVariants.{Write, Sync}
-use Rattle.lsvd_device.proofs.Moments.{length-with_bytes, one_count, written_some}
+use Rattle.lsvd_device.proofs.Moments.{length-with_bytes, one_count, written_some, inside_more}
 
 -- the bytes after one change more
 pub contents_more : (changes : List Change) (bytes written : List ℕ) (change : Change)
@@ -36,7 +37,7 @@ length-contents (Write at n ∷ changes) size bytes written count inside =
 length-contents (Sync ∷ changes) size bytes written count inside = length-contents changes size bytes written count inside.1
 
 -- the bytes of the newest moment
-now_contents : (changes : List Change) (first now : Medium) (before past : List Medium) (written : List ℕ)
+pub now_contents : (changes : List Change) (first now : Medium) (before past : List Medium) (written : List ℕ)
     → moments_from (first ∷ before) changes written ≡ now ∷ past
     → now.bytes ≡ contents_from first.bytes changes written
 unfolding moments_from contents_from
@@ -99,7 +100,7 @@ pub record IsAsFar (at : ℕ) (changes : List Change) (k used : ℕ) (written fi
 -- how far a replay has come with its next change
 pub written_next : (changes : List Change) (k used : ℕ) (change : Change) (written : List ℕ) → k < length changes
     → change ≡ get_or changes k change → used ≡ bytes_written (take k changes)
-    → bytes_written changes ≡ length written → used + bytes_written (change ∷ []) ≤ length written
+    → bytes_written changes ≤ length written → used + bytes_written (change ∷ []) ≤ length written
 written_next changes k used change written less is so_far counted =
     let next : take (k + 1) changes ≡ take k changes ++ change ∷ [] = take_more changes k change less
     ∙ ap (λ c. take k changes ++ c ∷ []) (sym is) in
@@ -154,9 +155,13 @@ last_far at changes k used written first buf end far = λ size inside all.
     far.shown size inside all ∙ ap (λ cs. take (length first) (drop at (contents_from (replicate size 0) cs written)))
     (take_all k changes end)
 
+pub all_used : (at : ℕ) (changes : List Change) (k used : ℕ) (written first buf : List ℕ) → length changes ≤ k
+    → IsAsFar at changes k used written first buf → used ≡ bytes_written changes
+all_used at changes k used written first buf end far = far.used' ∙ ap bytes_written (take_all k changes end)
+
 -- what a replay has used is among what was written
 pub far_inside : (at : ℕ) (changes : List Change) (k used : ℕ) (written first buf : List ℕ)
-    → IsAsFar at changes k used written first buf → bytes_written changes ≡ length written → used ≤ length written
+    → IsAsFar at changes k used written first buf → bytes_written changes ≤ length written → used ≤ length written
 far_inside at changes k used written first buf far counted = (let e = written_some changes k in let f = far.used' in
     omega (arith, e, f, counted))
 
@@ -184,3 +189,92 @@ pub front_kept : (size synced : ℕ) (changes : List Change) (written held : Lis
 front_kept size synced changes written held kept =
     subst (λ xs. IsFrontOf xs held) (now_contents changes (durable (replicate size 0)) kept.now [] kept.past written kept.moments)
     kept.front
+
+-- ---- what changes left, written as one piece
+
+-- how far a search has come for the end of what changes wrote
+pub record IsEndSoFar (changes : List Change) (k end : ℕ) : Type 0 where
+  pub inside : LieInside end (take k changes)
+  pub least : (size : ℕ) → LieInside size changes → end ≤ size
+
+pub end_first : (changes : List Change) → IsEndSoFar changes 0 0
+end_first changes = record { inside = tt; least = λ size all. omega arith }
+
+one_longer : (change : Change) (size longer : ℕ) → size ≤ longer → LiesInside size change → LiesInside longer change
+one_longer (Write at n) size longer less inside = omega (arith, inside, less)
+one_longer Sync size longer less inside = tt
+
+pub end_next : (changes : List Change) (k end one : ℕ) (change : Change) → k < length changes → change ≡ get_or changes k change
+    → IsEndSoFar changes k end → LiesInside one change → ((size : ℕ) → LiesInside size change → one ≤ size)
+    → IsEndSoFar changes (k + 1) (max one end)
+end_next changes k end one change less is far inside least =
+    let next : take (k + 1) changes ≡ take k changes ++ change ∷ [] = take_more changes k change less
+    ∙ ap (λ c. take k changes ++ c ∷ []) (sym is) in
+    record {
+      inside = subst (LieInside (max one end)) (sym next) (inside_more (max one end) (take k changes) change
+          (inside_longer (take k changes) end (max one end) (omega arith) far.inside)
+          (one_longer change one (max one end) (omega arith) inside));
+      least = λ size all.
+          let a = far.least size all in
+          let b = least size (one_inside changes k size change less is all) in
+          omega (arith, a, b);
+    }
+
+pub end_last : (changes : List Change) (k end : ℕ) → length changes ≤ k → IsEndSoFar changes k end → LieInside end changes
+end_last changes k end last far = subst (LieInside end) (take_all k changes last) far.inside
+
+-- a piece changes nothing behind it
+behind_piece : (at end : ℕ) (piece bytes : List ℕ) → at + length piece ≤ end → end ≤ length bytes
+    → drop end (with_bytes at piece bytes) ≡ drop end bytes
+behind_piece at end piece bytes inside fits =
+    let front : length (take at bytes) ≡ at = length-take-le at bytes (omega (arith, inside, fits)) in
+    let long : length (take at bytes ++ piece) ≡ at + length piece =
+    (let e = length-append (take at bytes) piece in omega (arith, e, front)) in
+    let place : at + length piece + (end - (at + length piece)) ≡ end = omega (arith, inside) in
+    ap (λ n. drop n (with_bytes at piece bytes)) (sym place)
+    ∙ sym (drop-drop (end - (at + length piece)) (at + length piece) (with_bytes at piece bytes))
+    ∙ ap (drop (end - (at + length piece))) (drop_at (take at bytes ++ piece) (drop (at + length piece) bytes)
+    (at + length piece) long)
+    ∙ drop-drop (end - (at + length piece)) (at + length piece) bytes
+    ∙ ap (λ n. drop n bytes) place
+
+-- nor do changes change anything behind their end
+contents_behind : (changes : List Change) (end : ℕ) (bytes written : List ℕ) → LieInside end changes → end ≤ length bytes
+    → drop end (contents_from bytes changes written) ≡ drop end bytes
+unfolding contents_from
+contents_behind [] end bytes written all fits = refl
+contents_behind (Write at n ∷ changes) end bytes written all fits =
+    let some : length (take n written) ≤ n = (let e = length-take n written in omega (arith, e)) in
+    let within : at + length (take n written) ≤ end = (let e = all.0 in omega (arith, e, some)) in
+    let count = length-with_bytes at (take n written) bytes (omega (arith, within, fits)) in
+    contents_behind changes end (with_bytes at (take n written) bytes) (drop n written) all.1 (omega (arith, count, fits))
+    ∙ behind_piece at end (take n written) bytes within fits
+contents_behind (Sync ∷ changes) end bytes written all fits = contents_behind changes end bytes written all.1 fits
+
+-- what changes left of zeros up to their end, written there over zeros, is all that they left
+pub made_at_once : (size end : ℕ) (changes : List Change) (written piece : List ℕ) → length piece ≡ end → end ≤ size
+    → LieInside end changes
+    → piece ≡ take (length piece) (drop 0 (contents_from (replicate size 0) changes written))
+    → with_bytes 0 piece (replicate size 0) ≡ contents_from (replicate size 0) changes written
+made_at_once size end changes written piece count fits inside is =
+    let zeros : List ℕ = replicate size 0 in
+    let all : List ℕ = contents_from zeros changes written in
+    let long : length zeros ≡ size = length-replicate {A = ℕ} size 0 in
+    let front : piece ≡ take end all = is ∙ ap (λ n. take n all) count in
+    let behind : drop end all ≡ drop end zeros = contents_behind changes end zeros written inside (omega (arith, fits, long)) in
+    let none : 0 + length piece ≡ end = omega (arith, count) in
+    ap (λ n. piece ++ drop n zeros) none
+    ∙ ap (λ xs. piece ++ xs) (sym behind)
+    ∙ ap (λ xs. xs ++ drop end all) front
+    ∙ take-append-drop end all
+
+-- a disk with a piece written at its beginning
+pub piece_at_once : (size end : ℕ) (changes : List Change) (written piece : List ℕ) (old new : List Medium)
+    → old ≡ durable (replicate size 0) ∷ [] → length piece ≡ end → end ≤ size → LieInside end changes
+    → piece ≡ take (length piece) (drop 0 (contents_from (replicate size 0) changes written))
+    → new ≡ moments_after (after_write 0 piece) old
+    → HasNow (λ now. now.bytes ≡ contents_from (replicate size 0) changes written) new
+piece_at_once size end changes written piece old new zeros count fits inside is moments =
+    let all : List ℕ = contents_from (replicate size 0) changes written in
+    subst (HasNow (λ now. now.bytes ≡ all)) (sym (moments ∙ ap (moments_after (after_write 0 piece)) zeros))
+    (made_at_once size end changes written piece count fits inside is)

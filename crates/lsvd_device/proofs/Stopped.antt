@@ -11,6 +11,7 @@ use Rattle.lsvd_device.specs.Medium.{Medium, MayLeave, LiesOutside, durable, aft
 use Rattle.lsvd_bytes.specs.Places.{with_bytes}
 use Rattle.lsvd_device.specs.Device.{DiskState, HasSize, HoldsNow, moments_after}
 use Rattle.lsvd_device.specs.Memory.{moments_from, moments_of, bytes_written, IsSynced, IsKept, IsWrite, LiesInside, LieInside}
+use Rattle.lsvd_device.specs.Memory.{contents_from}
 use Rattle.lsvd_device.specs.declared.change.Change.{Change}
 use Rattle.lsvd_device.specs.declared.change.Change.TheVariants.{Write, Sync}
 use Rattle.lsvd_device.specs.declared.fate.Fate.{Fate}
@@ -18,8 +19,9 @@ use Rattle.lsvd_device.specs.declared.fate.Fate.TheVariants.{Kept, Old, Zeros, T
 use Rattle.lsvd_device.specs.Stop.{put_by, left_by, left_in_order, AreLeftBy, change_by, HasNow, Rewrites, LeavesBy, IsStopped}
 use Rattle.lsvd_device.specs.Stop.{MayStop}
 use Rattle.lsvd_device.proofs.Moments.{length-with_bytes, written_some, one_count, write_has_size}
+use Rattle.lsvd_device.proofs.Replayed.{now_contents}
 
--- ---- changes made again
+-- ---- one change more
 
 -- the moments after some changes, and then one more
 moments_more : (changes : List Change) (moments : List Medium) (written : List ℕ) (change : Change)
@@ -34,7 +36,7 @@ moments_more (Write at n ∷ changes) moments written change =
     (drop-drop (bytes_written changes) n written)
 moments_more (Sync ∷ changes) moments written change = moments_more changes (moments_after after_sync moments) written change
 
-pub one_change_more : (changes : List Change) (k : ℕ) (moments : List Medium) (written : List ℕ) (change : Change)
+one_change_more : (changes : List Change) (k : ℕ) (moments : List Medium) (written : List ℕ) (change : Change)
     → k < length changes → change ≡ get_or changes k change
     → moments_from moments (take (k + 1) changes) written ≡ moments_from (moments_from moments (take k changes) written)
     (change ∷ []) (drop (bytes_written (take k changes)) written)
@@ -43,19 +45,10 @@ one_change_more changes k moments written change inside is =
     ∙ ap (λ c. take k changes ++ c ∷ []) (sym is) in
     ap (λ cs. moments_from moments cs written) next ∙ moments_more (take k changes) moments written change
 
-pub none_made : (moments : List Medium) (written : List ℕ) → moments ≡ moments_from moments [] written
-unfolding moments_from
-none_made moments written = refl
-
-pub write_made : (moments : List Medium) (at n : ℕ) (written : List ℕ) → moments_from moments (Write at n ∷ []) written
+write_made : (moments : List Medium) (at n : ℕ) (written : List ℕ) → moments_from moments (Write at n ∷ []) written
     ≡ moments_after (after_write at (take n written)) moments
 unfolding moments_from
 write_made moments at n written = refl
-
-pub sync_made : (moments : List Medium) (written : List ℕ) → moments_from moments (Sync ∷ []) written
-    ≡ moments_after after_sync moments
-unfolding moments_from
-sync_made moments written = refl
 
 -- ---- bytes outside a piece that was put
 
@@ -367,12 +360,6 @@ pending_kept size synced changes written held kept =
 
 -- ---- loops over changes
 
--- how far another disk has come with the changes
-pub record IsAgain (old : DiskState) (changes : List Change) (written : List ℕ) (disk : DiskState) (k used : ℕ) : Type 0 where
-  pub used' : used ≡ bytes_written (take k changes)
-  pub moments : disk.moments ≡ moments_from old.moments (take k changes) written
-  pub size : disk.size ≡ old.size
-
 -- the next of the changes, and what is left of the bytes
 pub record IsNextOf (changes : List Change) (written : List ℕ) (size used : ℕ) (change : Change) : Type 0 where
   pub fits : used + bytes_written (change ∷ []) ≤ length written
@@ -393,25 +380,6 @@ next_of changes written size other k used change inside is so_far counted lies s
       inside = subst (λ n. LiesInside n change) (sym same) (one_of (LiesInside size) changes k change inside is lies);
       left = (let e = ap length rest in omega (arith, e, long, fits));
       rest = rest;
-    }
-
-pub again_next : (old mid new : DiskState) (changes : List Change) (written : List ℕ) (k used count : ℕ) (change : Change)
-    → k < length changes → change ≡ get_or changes k change
-    → IsAgain old changes written mid k used → count ≡ bytes_written (change ∷ [])
-    → new.moments ≡ moments_from mid.moments (change ∷ []) (take (length written - used) (drop used written))
-    → new.size ≡ mid.size
-    → IsAgain old changes written new (k + 1) (used + count)
-again_next old mid new changes written k used count change inside is again counted moments size =
-    let next = used_next changes k used change inside is again.used' in
-    record {
-      used' = ap (λ n. used + n) counted ∙ sym next.0;
-      moments =
-          moments
-          ∙ ap (moments_from mid.moments (change ∷ [])) (take_rest written used)
-          ∙ ap (λ ms. moments_from ms (change ∷ []) (drop used written)) again.moments
-          ∙ ap (λ n. moments_from (moments_from old.moments (take k changes) written) (change ∷ []) (drop n written)) again.used'
-          ∙ sym (one_change_more changes k old.moments written change inside is);
-      size = size ∙ again.size;
     }
 
 -- how far the fates have come
@@ -532,22 +500,22 @@ stopped_by size fates moments (d ∷ past) after left synced = (
 )
 
 pub has_stopped : (size synced used : ℕ) (changes : List Change) (written : List ℕ) (fates : List Fate)
-    (first again behind after : List Medium) → MayStop size synced changes written fates
-    → first ≡ durable (replicate size 0) ∷ [] → again ≡ moments_from first (take synced changes) written
+    (again behind after : List Medium) → MayStop size synced changes written fates
+    → HasNow (λ now. now.bytes ≡ contents_from (replicate size 0) (take synced changes) written) again
     → used ≡ bytes_written (take synced changes)
     → LeavesBy size fates (drop synced changes) (drop used written) again behind → after ≡ moments_after after_sync behind
     → HasStopped size changes written fates after
-has_stopped size synced used changes written fates first again behind after may is made count left synced' =
+has_stopped size synced used changes written fates again behind after may made count left synced' =
     let split = are_split size synced changes written may.held may.kept in
-    let start : again ≡ split.now ∷ split.past = made ∙ ap (λ ms. moments_from ms (take synced changes) written) is
-    ∙ split.at_sync in
     let zeros : length (replicate size 0) ≡ size = length-replicate {A = ℕ} size 0 in
     let parts = parts_of size synced changes written fates may in
     let media = media_at size (take synced changes) (durable (replicate size 0)) [] written parts.before_inside parts.before
     (record { bytes = zeros; synced = zeros }) in
     let has : HasSize size split.now = subst (HoldsNow (HasSize size)) split.at_sync media in
+    let same : split.now.bytes ≡ contents_from (replicate size 0) (take synced changes) written =
+    now_contents (take synced changes) (durable (replicate size 0)) split.now [] split.past written split.at_sync in
     let reads : HasNow (λ d. d.bytes ≡ split.now.bytes) again =
-    subst (HasNow (λ d. d.bytes ≡ split.now.bytes)) (sym start) refl in
+    subst (λ xs. HasNow (λ d. d.bytes ≡ xs) again) (sym same) made in
     let met = left split.now split.past split.still has reads in
     let all : moments_of size changes written ≡ moments_from (split.now ∷ split.past) (drop synced changes) (drop used written) =
     split.behind ∙ ap (λ n. moments_from (split.now ∷ split.past) (drop synced changes) (drop n written)) (sym count) in

@@ -225,11 +225,13 @@ fn read_kept(front: &[u8], changes: &[Change], written: &[u8], at: u64, buf: &mu
     replay(changes, written, at, buf);
 }
 
-// Makes the bytes from `at` on of zeros and of these changes, in order.
-fn replay(changes: &[Change], written: &[u8], at: u64, buf: &mut [u8])
-    requires counted { bytes_written changes.now ≡ length written.now }
+/// Makes the bytes from `at` on of zeros and of these changes, in order, and answers how many bytes the
+/// changes wrote, which are the first of `written`.
+pub(crate) fn replay(changes: &[Change], written: &[u8], at: u64, buf: &mut [u8]) -> usize
+    requires counted { bytes_written changes.now ≤ length written.now }
     requires ends { LieInside (2 ^ 64 - 1) changes.now }
-    ensures { (size : ℕ) → at + length buf.old ≤ size → LieInside size changes.now
+    ensures count { result ≡ bytes_written changes.now }
+    ensures shown { (size : ℕ) → at + length buf.old ≤ size → LieInside size changes.now
         → buf.new ≡ take (length buf.old)
         (drop at (contents_from (replicate size 0) changes.now written.now)) }
 {
@@ -238,6 +240,7 @@ fn replay(changes: &[Change], written: &[u8], at: u64, buf: &mut [u8])
     for change in changes {
         from += put_change(*change, &written[from..], at, buf);
     }
+    from
 }
 
 // Makes the bytes from `at` on of what they were and of a change, and answers how many bytes the change

@@ -1,17 +1,18 @@
-ghost use Rattle.std.specs.Prelude.{◌≡◌, ◌+◌, ◌≤◌, [], ◌∷◌, length, IfOk, OnOk, Some, None};
+ghost use Rattle.std.specs.Prelude.{◌≡◌, ◌+◌, ◌-◌, ◌≤◌, ◌^◌, ℕ, [], ◌∷◌, length, replicate, IfOk, OnOk, Some};
+ghost use Rattle.std.specs.Prelude.{None};
 ghost use Rattle.std.specs.List.{AllByRecursion};
-ghost use Rattle.lsvd_device.specs.Medium.{MayLeave, after_write, after_sync};
+ghost use Rattle.lsvd_device.specs.Medium.{MayLeave, durable, after_write, after_sync};
 ghost use Rattle.lsvd_device.specs.Calls.{fuse_of};
 ghost use Rattle.lsvd_device.specs.Device.{IsDisk, HoldsNow, moments_after};
-ghost use Rattle.lsvd_device.specs.Memory.{IsWrite, LiesInside, LieInside, bytes_written, moments_from};
-ghost use Rattle.lsvd_device.specs.Memory.{moments_of};
-ghost use Rattle.lsvd_device.specs.Stop.{put_by, change_by, left_in_order, IsStopped, Rewrites, LeavesBy};
-ghost use Rattle.lsvd_device.specs.Stop.{MayStop};
+ghost use Rattle.lsvd_device.specs.Memory.{IsWrite, LiesInside, LieInside, bytes_written, moments_of};
+ghost use Rattle.lsvd_device.specs.Memory.{contents_from};
+ghost use Rattle.lsvd_device.specs.Stop.{put_by, change_by, left_in_order, IsStopped, HasNow, Rewrites};
+ghost use Rattle.lsvd_device.specs.Stop.{LeavesBy, MayStop};
 
 use crate::change::Change;
 use crate::disk::Disk;
 use crate::fate::Fate;
-use crate::memory::MemDisk;
+use crate::memory::{MemDisk, replay};
 use lsvd_fault::Failed;
 use std::alloc::{AllocError, Global};
 
@@ -36,7 +37,7 @@ pub(crate) fn stop(
     ensures is_disk { IfOk result IsDisk }
 {
     let mut disk = MemDisk::new(alloc, size)?;
-    let used = make_again(&mut disk, &changes[..synced], written)?;
+    let used = make_at_once(alloc, &mut disk, &changes[..synced], written)?;
     make_by_fates(
         alloc,
         &mut disk,
@@ -49,40 +50,74 @@ pub(crate) fn stop(
     Ok(disk)
 }
 
-// Makes changes again on another disk, and answers how many bytes they wrote, which are the first of
-// `written`.
-fn make_again(disk: &mut MemDisk, changes: &[Change], written: &[u8]) -> Result<usize, AllocError>
+// Writes on a disk of zeros, as one piece, what changes left of such a disk, and answers how many bytes they
+// wrote, which are the first of `written`. So no stop makes again what the stops before it made.
+fn make_at_once(
+    alloc: Global,
+    disk: &mut MemDisk,
+    changes: &[Change],
+    written: &[u8],
+) -> Result<usize, AllocError>
     requires counted { bytes_written changes.now ≤ length written.now }
     requires inside { LieInside disk.old.size changes.now }
+    requires ends { LieInside (2 ^ 64 - 1) changes.now }
+    requires zeros { disk.old.moments ≡ durable (replicate disk.old.size 0) ∷ [] }
     ensures used { IfOk result (λ used. used ≡ bytes_written changes.now) }
-    ensures moments { OnOk result (disk.new.moments ≡ moments_from disk.old.moments changes.now written.now) }
+    ensures bytes { OnOk result (HasNow
+        (λ now. now.bytes ≡ contents_from (replicate disk.old.size 0) changes.now written.now)
+        disk.new.moments) }
     ensures size { disk.new.size ≡ disk.old.size }
 {
-    let mut used = 0;
-    for change in changes {
-        used += make_change(disk, *change, &written[used..])?;
-    }
+    let mut bytes = vec![in alloc; 0; end_of(changes) as usize]?;
+    make_as(disk, changes, written, &mut bytes)
+}
+
+// The same where `piece` is as long as the changes reach, or longer; what they left stands in it then.
+fn make_as(
+    disk: &mut MemDisk,
+    changes: &[Change],
+    written: &[u8],
+    piece: &mut [u8],
+) -> Result<usize, AllocError>
+    requires counted { bytes_written changes.now ≤ length written.now }
+    requires inside { LieInside disk.old.size changes.now }
+    requires ends { LieInside (2 ^ 64 - 1) changes.now }
+    requires zeros { disk.old.moments ≡ durable (replicate disk.old.size 0) ∷ [] }
+    requires piece { LieInside (length piece.old) changes.now }
+    requires fits { length piece.old ≤ disk.old.size }
+    ensures used { IfOk result (λ used. used ≡ bytes_written changes.now) }
+    ensures bytes { OnOk result (HasNow
+        (λ now. now.bytes ≡ contents_from (replicate disk.old.size 0) changes.now written.now)
+        disk.new.moments) }
+    ensures size { disk.new.size ≡ disk.old.size }
+{
+    let used = replay(changes, written, 0, piece);
+    put(disk, 0, piece)?;
     Ok(used)
 }
 
-// Makes a change again, and answers how many bytes it wrote.
-fn make_change(disk: &mut MemDisk, change: Change, written: &[u8]) -> Result<usize, AllocError>
-    requires fits { bytes_written (change ∷ []) ≤ length written.now }
-    requires inside { LiesInside disk.old.size change }
-    ensures count { IfOk result (λ count. count ≡ bytes_written (change ∷ [])) }
-    ensures moments { OnOk result (disk.new.moments ≡ moments_from disk.old.moments (change ∷ [])
-        written.now) }
-    ensures size { disk.new.size ≡ disk.old.size }
+// Where the last of the bytes ends that these changes wrote.
+fn end_of(changes: &[Change]) -> u64
+    requires ends { LieInside (2 ^ 64 - 1) changes.now }
+    ensures inside { LieInside result changes.now }
+    ensures least { (size : ℕ) → LieInside size changes.now → result ≤ size }
+{
+    let mut end = 0;
+    for change in changes {
+        end = end_with(*change).max(end);
+    }
+    end
+}
+
+// Where the bytes end that this change wrote.
+fn end_with(change: Change) -> u64
+    requires ends { LiesInside (2 ^ 64 - 1) change }
+    ensures inside { LiesInside result change }
+    ensures least { (size : ℕ) → LiesInside size change → result ≤ size }
 {
     match change {
-        Change::Write { at, count } => {
-            put(disk, at, &written[..count])?;
-            Ok(count)
-        }
-        Change::Sync => {
-            sync(disk)?;
-            Ok(0)
-        }
+        Change::Write { at, count } => at + count as u64,
+        Change::Sync => 0,
     }
 }
 

@@ -4,7 +4,7 @@ use Rattle.std.proofs.lemmas.List.{length-drop, take_rest, get_or_default}
 use Rattle.lsvd_device.specs.Memory.{bytes_written, LiesInside, contents_from}
 use Rattle.lsvd_device.specs.declared.change.Change.{Change}
 use Rattle.lsvd_device.specs.declared.change.Change.TheVariants.{Write}
-use Rattle.lsvd_device.proofs.Replayed.{first_far, next_far, last_far, written_next, far_inside}
+use Rattle.lsvd_device.proofs.Replayed.{first_far, next_far, last_far, all_used, written_next, far_inside}
 use Rattle.lsvd_device.proofs.memory.replay.Goals as goal
 
 pub loop-change-init : goal.loop-change-init
@@ -68,6 +68,10 @@ loop-change-preserved c =
     is c.loop-change.invariant same shown in
     rw c.put_change-from.ensures.count far
 
-pub returns : goal.returns
-returns c = last_far c.args.at c.args.changes.now c.loop-change.change-index c.loop-change.from c.args.written.now c.args.buf.now
-    c.loop-change.buf (search rules) c.loop-change.invariant
+pub returns-clause-count : goal.returns-clause-count
+returns-clause-count c = all_used c.args.at c.args.changes.now c.loop-change.change-index c.loop-change.from c.args.written.now
+    c.args.buf.now c.loop-change.buf (search rules) c.loop-change.invariant
+
+pub returns-clause-shown : goal.returns-clause-shown
+returns-clause-shown c = last_far c.args.at c.args.changes.now c.loop-change.change-index c.loop-change.from
+    c.args.written.now c.args.buf.now c.loop-change.buf (search rules) c.loop-change.invariant

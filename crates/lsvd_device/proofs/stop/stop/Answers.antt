@@ -1,18 +1,18 @@
-use Rattle.std.proofs.Common.{◌≡◌, ◌-◌, ◌≤◌, ◌∙◌, ℕ, List, length, take, drop, sym, ap, subst, arith}
+use Rattle.std.proofs.Common.{◌≡◌, ◌-◌, ◌≤◌, ◌∙◌, ℕ, List, length, take, drop, replicate, sym, ap, subst, arith}
 use Rattle.std.proofs.lemmas.List.{take_rest, length-drop}
 use Rattle.lsvd_device.specs.Medium.{Medium}
-use Rattle.lsvd_device.specs.Memory.{LieInside, bytes_written}
+use Rattle.lsvd_device.specs.Memory.{LieInside, bytes_written, contents_from}
 use Rattle.lsvd_device.specs.declared.change.Change.{Change}
-use Rattle.lsvd_device.specs.Stop.{LeavesBy}
+use Rattle.lsvd_device.specs.Stop.{HasNow, LeavesBy}
 use Rattle.lsvd_device.proofs.Stopped.{parts_of, has_stopped}
 use Rattle.lsvd_device.proofs.stop.stop.Goals as goal
 
-pub make_again-requires-clause-counted : goal.make_again-requires-clause-counted
-make_again-requires-clause-counted c = (parts_of c.args.size c.args.synced c.args.changes.now c.args.written.now c.args.fates.now
-    c.requires).before
+pub make_at_once-requires-clause-counted : goal.make_at_once-requires-clause-counted
+make_at_once-requires-clause-counted c = (parts_of c.args.size c.args.synced c.args.changes.now c.args.written.now
+    c.args.fates.now c.requires).before
 
-pub make_again-requires-clause-inside : goal.make_again-requires-clause-inside
-make_again-requires-clause-inside c =
+pub make_at_once-requires-clause-inside : goal.make_at_once-requires-clause-inside
+make_at_once-requires-clause-inside c =
     let P : ℕ → Type 0 = λ n. LieInside n (take c.args.synced c.args.changes.now) in
     subst P (sym c.in_ok-disk.ensures.size) (parts_of c.args.size c.args.synced c.args.changes.now c.args.written.now
     c.args.fates.now c.requires).before_inside
@@ -45,45 +45,47 @@ pub make_by_fates-requires-clause-inside : goal.make_by_fates-requires-clause-in
 make_by_fates-requires-clause-inside c =
     let changes : List Change = c.args.changes.now in
     let P : ℕ → Type 0 = λ n. LieInside n (drop c.args.synced changes) in
-    let size : c.make_again.new.disk.size ≡ c.args.size = c.make_again.ensures.size ∙ c.in_ok-disk.ensures.size in
-    let inside : LieInside c.make_again.new.disk.size (drop c.args.synced changes) =
+    let size : c.make_at_once.new.disk.size ≡ c.args.size = c.make_at_once.ensures.size ∙ c.in_ok-disk.ensures.size in
+    let inside : LieInside c.make_at_once.new.disk.size (drop c.args.synced changes) =
     subst P (sym size) (parts_of c.args.size c.args.synced changes c.args.written.now c.args.fates.now c.requires).after_inside in
-    subst (LieInside c.make_again.new.disk.size) (sym (take_rest changes c.args.synced)) inside
+    subst (LieInside c.make_at_once.new.disk.size) (sym (take_rest changes c.args.synced)) inside
 
 pub returns-clause-left : goal.returns-clause-left
 returns-clause-left c =
     let changes : List Change = c.args.changes.now in
     let written : List ℕ = c.args.written.now in
     let used : ℕ = c.in_ok-used.used in
-    let before : List Medium = c.make_again.new.disk.moments in
+    let before : List Medium = c.make_at_once.new.disk.moments in
     let after : List Medium = c.make_by_fates.new.disk.moments in
-    let size : c.make_again.new.disk.size ≡ c.args.size = c.make_again.ensures.size ∙ c.in_ok-disk.ensures.size in
+    let size : c.make_at_once.new.disk.size ≡ c.args.size = c.make_at_once.ensures.size ∙ c.in_ok-disk.ensures.size in
     let P : ℕ → Type 0 = λ n. LeavesBy n c.args.fates.now (drop c.args.synced changes) (drop used written) before after in
-    let Q : List Change → Type 0 = λ cs. LeavesBy c.make_again.new.disk.size c.args.fates.now cs
+    let Q : List Change → Type 0 = λ cs. LeavesBy c.make_at_once.new.disk.size c.args.fates.now cs
     (take (length written - used) (drop used written)) before after in
-    let R : List ℕ → Type 0 = λ xs. LeavesBy c.make_again.new.disk.size c.args.fates.now (drop c.args.synced changes) xs
+    let R : List ℕ → Type 0 = λ xs. LeavesBy c.make_at_once.new.disk.size c.args.fates.now (drop c.args.synced changes) xs
     before after in
     let left = subst P size (subst R (take_rest written used)
     (subst Q (take_rest changes c.args.synced) c.in_ok-make_by_fates.ensures.left)) in
-    (has_stopped c.args.size c.args.synced used changes written c.args.fates.now c.in_ok-disk.disk.moments before after
-    c.sync.new.disk.moments c.requires c.in_ok-disk.ensures.moments c.in_ok-used.ensures.moments
-    c.in_ok-used.ensures.used left c.in_ok-sync.ensures.moments).stopped
+    let bytes = subst (λ n. HasNow (λ now. now.bytes ≡ contents_from (replicate n 0) (take c.args.synced changes) written) before)
+    c.in_ok-disk.ensures.size c.in_ok-used.ensures.bytes in
+    (has_stopped c.args.size c.args.synced used changes written c.args.fates.now before after
+    c.sync.new.disk.moments c.requires bytes c.in_ok-used.ensures.used left c.in_ok-sync.ensures.moments).stopped
 
 pub returns-clause-may_leave : goal.returns-clause-may_leave
 returns-clause-may_leave c =
     let changes : List Change = c.args.changes.now in
     let written : List ℕ = c.args.written.now in
     let used : ℕ = c.in_ok-used.used in
-    let before : List Medium = c.make_again.new.disk.moments in
+    let before : List Medium = c.make_at_once.new.disk.moments in
     let after : List Medium = c.make_by_fates.new.disk.moments in
-    let size : c.make_again.new.disk.size ≡ c.args.size = c.make_again.ensures.size ∙ c.in_ok-disk.ensures.size in
+    let size : c.make_at_once.new.disk.size ≡ c.args.size = c.make_at_once.ensures.size ∙ c.in_ok-disk.ensures.size in
     let P : ℕ → Type 0 = λ n. LeavesBy n c.args.fates.now (drop c.args.synced changes) (drop used written) before after in
-    let Q : List Change → Type 0 = λ cs. LeavesBy c.make_again.new.disk.size c.args.fates.now cs
+    let Q : List Change → Type 0 = λ cs. LeavesBy c.make_at_once.new.disk.size c.args.fates.now cs
     (take (length written - used) (drop used written)) before after in
-    let R : List ℕ → Type 0 = λ xs. LeavesBy c.make_again.new.disk.size c.args.fates.now (drop c.args.synced changes) xs
+    let R : List ℕ → Type 0 = λ xs. LeavesBy c.make_at_once.new.disk.size c.args.fates.now (drop c.args.synced changes) xs
     before after in
     let left = subst P size (subst R (take_rest written used)
     (subst Q (take_rest changes c.args.synced) c.in_ok-make_by_fates.ensures.left)) in
-    (has_stopped c.args.size c.args.synced used changes written c.args.fates.now c.in_ok-disk.disk.moments before after
-    c.sync.new.disk.moments c.requires c.in_ok-disk.ensures.moments c.in_ok-used.ensures.moments
-    c.in_ok-used.ensures.used left c.in_ok-sync.ensures.moments).may_leave
+    let bytes = subst (λ n. HasNow (λ now. now.bytes ≡ contents_from (replicate n 0) (take c.args.synced changes) written) before)
+    c.in_ok-disk.ensures.size c.in_ok-used.ensures.bytes in
+    (has_stopped c.args.size c.args.synced used changes written c.args.fates.now before after
+    c.sync.new.disk.moments c.requires bytes c.in_ok-used.ensures.used left c.in_ok-sync.ensures.moments).may_leave
