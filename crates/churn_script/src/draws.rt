@@ -6,9 +6,6 @@ use replay_script::{Command, Letters};
 use std::alloc::{AllocError, Global};
 use std::marker::Model;
 
-/// The most steps of a generated script.
-pub const STEP_LIMIT: u64 = 1_000_000;
-
 // The numbers of the generator, whose state is below 2^64: it is multiplied by the one, and the other is
 // added.
 const MULTIPLIER: u64 = 6_364_136_223_846_793_005;

@@ -6,4 +6,4 @@
 
 mod draws;
 
-pub use draws::{Draws, STEP_LIMIT, the_first_step_of_the_seed_0_flushes};
+pub use draws::{Draws, the_first_step_of_the_seed_0_flushes};

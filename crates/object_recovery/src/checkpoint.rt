@@ -27,15 +27,15 @@ use uuid::Uuid;
 
 /// A checkpoint that was read.
 #[derive(Drop)]
-pub(crate) struct StoredCheckpoint<R: Receipt> {
+pub struct StoredCheckpoint<R: Receipt> {
     /// Its number.
-    pub(crate) number: u64,
+    pub number: u64,
     /// How many entries of the history are in it and in the objects before it.
-    pub(crate) end: u64,
+    pub end: u64,
     /// All of its bytes, which are of the grammar.
-    pub(crate) bytes: Vec<u8>,
+    pub bytes: Vec<u8>,
     /// What the store gave for it.
-    pub(crate) receipt: R,
+    pub receipt: R,
 }
 
 impl<R: Receipt> Model for StoredCheckpoint<R> {
@@ -54,7 +54,7 @@ impl<R: Receipt> Model for StoredCheckpoint<R> {
 /// The newest checkpoint among names, which are those of a volume's objects, in ascending order: the first
 /// bytes of objects are read from the last name on, and all of one whose header is that of a checkpoint,
 /// until one is found. `NoCheckpoint` comes where none is.
-pub(crate) fn newest_checkpoint<S: Store>(
+pub fn newest_checkpoint<S: Store>(
     alloc: Global,
     store: &mut S,
     geometry: &Geometry,
@@ -172,7 +172,7 @@ fn end_of_rows(bytes: &[u8], expected: &Expected) -> Option<u64>
 }
 
 /// What is expected of an object of a volume without ancestors, where the end before it is not known.
-pub(crate) fn expected_alone(uuid: Uuid, geometry: &Geometry, number: u64) -> Expected
+pub fn expected_alone(uuid: Uuid, geometry: &Geometry, number: u64) -> Expected
     ensures { result ≡ expected_alone (expected_of uuid geometry.now) number }
 {
     Expected {

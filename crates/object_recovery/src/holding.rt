@@ -84,9 +84,10 @@ fn mark_kept<S: Store>(
     }
 }
 
-// All bytes of the expected object, which is to be a checkpoint: it is refused where it is absent, and where
-// its header is none.
-fn read_held<S: Store>(
+/// All bytes of the expected object, which is to be a checkpoint: it is refused where it is absent, by
+/// `MissingObject`, and where its header is none, by `BadObject`. The other errors are `StoreFault`, where a
+/// call of the store failed, which the store counted, and `OutOfMemory`.
+pub fn read_held<S: Store>(
     alloc: Global,
     store: &mut S,
     expected: &Expected,

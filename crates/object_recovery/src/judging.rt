@@ -19,23 +19,23 @@ use uuid::Uuid;
 
 /// Why the objects of a volume are refused: one of them is bad.
 #[derive(Clone, Copy, Drop)]
-pub(crate) struct ObjectRefusal {
+pub struct ObjectRefusal {
     /// Its number.
-    pub(crate) number: u64,
+    pub number: u64,
     /// The first reason for which it is bad.
-    pub(crate) reason: BadObject,
+    pub reason: BadObject,
 }
 
 /// How far the objects of a volume were judged: each from the newest checkpoint on, up to one, and none of
 /// them is missing.
 #[derive(Clone, Copy, Drop)]
-pub(crate) struct Reached {
+pub struct Reached {
     /// The number of the last one.
-    pub(crate) number: u64,
+    pub number: u64,
     /// Its end, where it is of the grammar by itself.
-    pub(crate) end: Option<u64>,
+    pub end: Option<u64>,
     /// Why they are refused, if they are: for the greatest number that is bad.
-    pub(crate) refused: Option<ObjectRefusal>,
+    pub refused: Option<ObjectRefusal>,
 }
 
 // How one object was judged.
@@ -48,7 +48,7 @@ struct Judged {
 }
 
 /// Judges the objects past those that were reached, up to the first missing number.
-pub(crate) fn judge_to_gap<S: Store>(
+pub fn judge_to_gap<S: Store>(
     alloc: Global,
     store: &mut S,
     volume: &Expected,
@@ -73,7 +73,7 @@ pub(crate) fn judge_to_gap<S: Store>(
 
 /// Judges the objects past the first missing number, where these are the names of all objects that there are,
 /// in ascending order. Why the objects are refused then is answered.
-pub(crate) fn judge_past<S: Store>(
+pub fn judge_past<S: Store>(
     alloc: Global,
     store: &mut S,
     volume: &Expected,

@@ -111,7 +111,7 @@ fn own_end<S: Store>(
 
 /// Reads an object's header under the expected number. The first of its bytes, which were read for that, then
 /// stand in `bytes`, where none stood before (a condition).
-pub(crate) fn read_head<S: Store>(
+pub fn read_head<S: Store>(
     alloc: Global,
     store: &mut S,
     receipt: &S::Receipt,

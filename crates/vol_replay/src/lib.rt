@@ -15,7 +15,6 @@ mod outcome;
 mod run;
 mod text;
 
-pub use churn_script::STEP_LIMIT;
 pub use churning::churn;
 pub use outcome::{ChurnOutcome, Outcome};
 pub use replay_rig::Rig;
