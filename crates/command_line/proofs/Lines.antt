@@ -19,9 +19,10 @@ use Rattle.clap.specs.declared.error.kind.ErrorKind.TheVariants.{MissingSubcomma
 use Rattle.clap.specs.Faults.{check_fault, defaults_fault, entered_fault, level_fault, settle_fault, walk_fault}
 use Rattle.clap.proofs.OnLiterals.{clap_on_literals}
 use Rattle.command_line.specs.CommandLine.{AsksForHelp, IsHelpOption, IsVersionOption, Line, Spells, commands, create, faults_of}
-use Rattle.command_line.specs.CommandLine.{churn, replay, serve}
-use Rattle.command_line.specs.Churn.{churn_value}
+use Rattle.command_line.specs.CommandLine.{churn, collect, replay, serve}
+use Rattle.command_line.specs.Collect.{collect_options}
 use Rattle.command_line.specs.Create.{create_options}
+use Rattle.command_line.specs.Mistake.{line_value}
 use Rattle.command_line.specs.Options.{AreOptionsOf, Given, MayEnd, option_words, value_of}
 use Rattle.command_line.specs.Program.{bare, lsvdctl}
 use Rattle.command_line.specs.Program as program
@@ -165,6 +166,17 @@ has_serve = record {
   asks = λ option rest is. elim is [ inl short ↦ rw short (inl refl) | inr long ↦ rw long (inl refl) ];
 }
 
+has_collect : Has (codes "collect") collect_options
+unfolding faults_of lsvdctl walk_fault walked defaults_fault clap_on_literals
+has_collect = record {
+  names = has_names collect_options refl;
+  stops = λ words. top_stopped (codes "collect") words;
+  enters = λ words. refl;
+  quiet = λ words quiet. rw quiet refl;
+  meets = λ words. ap (entered app) (stopped_at (codes "collect") words);
+  asks = λ option rest is. elim is [ inl short ↦ rw short (inl refl) | inr long ↦ rw long (inl refl) ];
+}
+
 module _ (command : Text) (known : Known) (has : Has command known) where
   after_holds : (P : Kinds → Type 0) → IsByFirst P → (words : List Text) → P (faults_after command known words)
       → P (faults_of (command ∷ words))
@@ -221,10 +233,10 @@ first_word word rest none other =
     (first_refused app.top (names_of app) word top_has none other)
 
 no_command : (word : Text) → bytes_eq (codes "replay") word ≡ false → bytes_eq (codes "create") word ≡ false
-    → bytes_eq (codes "serve") word ≡ false → bytes_eq (codes "churn") word ≡ false
+    → bytes_eq (codes "serve") word ≡ false → bytes_eq (codes "collect") word ≡ false → bytes_eq (codes "churn") word ≡ false
     → subcommand_met (names_of app) idle word ≡ None
 unfolding lsvdctl
-no_command word replays creates serves churns = rw (replays, creates, serves, churns) refl
+no_command word replays creates serves collects churns = rw (replays, creates, serves, collects, churns) refl
 
 top_first : (word : Text) (rest : List Text) → subcommand_met (names_of app) idle word ≡ None → bytes_eq word (codes "--") ≡ false
     → IsRefusal (faults_of (word ∷ rest))
@@ -280,6 +292,12 @@ serve_line words = elim (given_or_refused (codes "serve") serve_options has_serv
   | inr refused ↦ inr refused
 ]
 
+collect_line : (words : List Text) → IsLine (codes "collect" ∷ words)
+collect_line words = elim (given_or_refused (codes "collect") collect_options has_collect words) [
+  | inl given ↦ inl (collect given.0, (given.1, given.2))
+  | inr refused ↦ inr refused
+]
+
 churn_line : (words : List Text) → IsLine (codes "churn" ∷ words)
 churn_line words = elim (refused_or_numbers words) [
   | inl refused ↦ inr (after_churn_holds IsRefusal refusal_first words refused)
@@ -292,25 +310,28 @@ other_line word rest true none is =
     subst (λ (w : Text). IsRefusal (faults_of (w ∷ rest))) (sym ((bytes_eq-Decides word (codes "--")).0 is)) (top_dashes rest)
 other_line word rest false none other = top_first word rest none other
 
-first_line : (word : Text) (rest : List Text) (replays creates serves churns : Bool) → bytes_eq (codes "replay") word ≡ replays
-    → bytes_eq (codes "create") word ≡ creates → bytes_eq (codes "serve") word ≡ serves → bytes_eq (codes "churn") word ≡ churns
+-- what begins with a command is its line
+line_named : (command word : Text) (rest : List Text) → IsLine (command ∷ rest) → bytes_eq command word ≡ true
     → IsLine (word ∷ rest)
-first_line word rest true creates serves churns is other others last =
-    subst (λ (w : Text). IsLine (w ∷ rest)) ((bytes_eq-Decides (codes "replay") word).0 is) (replay_line rest (after_replay rest))
-first_line word rest false true serves churns other is others last =
-    subst (λ (w : Text). IsLine (w ∷ rest)) ((bytes_eq-Decides (codes "create") word).0 is) (create_line rest)
-first_line word rest false false true churns other others is last =
-    subst (λ (w : Text). IsLine (w ∷ rest)) ((bytes_eq-Decides (codes "serve") word).0 is) (serve_line rest)
-first_line word rest false false false true other others last is =
-    subst (λ (w : Text). IsLine (w ∷ rest)) ((bytes_eq-Decides (codes "churn") word).0 is) (churn_line rest)
-first_line word rest false false false false replays creates serves churns =
-    inr (other_line word rest (bytes_eq word (codes "--")) (no_command word replays creates serves churns) refl)
+line_named command word rest line is = subst (λ (w : Text). IsLine (w ∷ rest)) ((bytes_eq-Decides command word).0 is) line
+
+first_line : (word : Text) (rest : List Text) (replays creates serves collects churns : Bool)
+    → bytes_eq (codes "replay") word ≡ replays → bytes_eq (codes "create") word ≡ creates → bytes_eq (codes "serve") word ≡ serves
+    → bytes_eq (codes "collect") word ≡ collects → bytes_eq (codes "churn") word ≡ churns → IsLine (word ∷ rest)
+first_line word rest true creates serves collects churns e f g h k =
+    line_named (codes "replay") word rest (replay_line rest (after_replay rest)) e
+first_line word rest false true serves collects churns e f g h k = line_named (codes "create") word rest (create_line rest) f
+first_line word rest false false true collects churns e f g h k = line_named (codes "serve") word rest (serve_line rest) g
+first_line word rest false false false true churns e f g h k = line_named (codes "collect") word rest (collect_line rest) h
+first_line word rest false false false false true e f g h k = line_named (codes "churn") word rest (churn_line rest) k
+first_line word rest false false false false false e f g h k =
+    inr (other_line word rest (bytes_eq word (codes "--")) (no_command word e f g h k) refl)
 
 pub each_line : (words : List Text) → IsLine words
 each_line [] = inr nothing_refused
 each_line (word ∷ rest) =
     first_line word rest (bytes_eq (codes "replay") word) (bytes_eq (codes "create") word) (bytes_eq (codes "serve") word)
-    (bytes_eq (codes "churn") word) refl refl refl refl
+    (bytes_eq (codes "collect") word) (bytes_eq (codes "churn") word) refl refl refl refl refl
 
 -- the words after a command that may be ended
 after_command : (command : Text) (options words : List Text) → MayEnd (command ∷ options) words
@@ -334,6 +355,8 @@ spelled_is_taken words (create options) (are, end) =
     given_is_quiet (codes "create") create_options has_create words (options, are, end)
 spelled_is_taken words (serve options) (are, end) =
     given_is_quiet (codes "serve") serve_options has_serve words (options, are, end)
+spelled_is_taken words (collect options) (are, end) =
+    given_is_quiet (codes "collect") collect_options has_collect words (options, are, end)
 spelled_is_taken words (churn steps seed) (rest, is, are) =
     rw is (churn_stops rest ∙ churn_quiet rest (numbers_are_taken steps seed rest are))
 
@@ -349,17 +372,28 @@ abbrev FindsValues : Text → Known → List Given → Option (Text × List Row)
 FindsValues command known options met = (rows : List Row) × (met ≡ Some (command, rows))
     × ((name : Text) → first_of name rows ≡ value_of known options name)
 
+-- the first word of a line
+abbrev pub command_of : Line → Text
+command_of replay = codes "replay"
+command_of (create options) = codes "create"
+command_of (serve options) = codes "serve"
+command_of (collect options) = codes "collect"
+command_of (churn steps seed) = codes "churn"
+
 -- the command and the values that clap finds, where the words spell a line
 abbrev pub IsFound : Line → Option (Text × List Row) → Type 0
-IsFound replay met = (rows : List Row) × (met ≡ Some (codes "replay", rows))
-IsFound (create options) met = FindsValues (codes "create") create_options options met
-IsFound (serve options) met = FindsValues (codes "serve") serve_options options met
-IsFound (churn steps seed) met = (rows : List Row) × (met ≡ Some (codes "churn", rows))
-    × ((name : Text) → first_of name rows ≡ churn_value steps seed name)
+IsFound line met = (rows : List Row) × (met ≡ Some (command_of line, rows))
+    × ((name : Text) → first_of name rows ≡ line_value line name)
+
+-- `replay` has no values
+replay_values : (rest : List Text) → MayEnd [] rest → (name : Text) → first_of name (rows_after leaf.rules [] rest) ≡ None
+unfolding clap_on_literals
+replay_values rest (inl is) name = rw is refl
+replay_values rest (inr is) name = rw is refl
 
 replay_found : (words : List Text) → (rest : List Text) × (words ≡ codes "replay" ∷ rest) × MayEnd [] rest
     → IsFound replay (subcommand_of lsvdctl words)
-replay_found words (rest, is, end) = (rows_after leaf.rules [] rest, rw is (replay_met rest))
+replay_found words (rest, is, end) = (rows_after leaf.rules [] rest, rw is (replay_met rest), replay_values rest end)
 
 given_finds : (command : Text) (known : Known) (has : Has command known) (words : List Text) (options : List Given)
     → AreOptionsOf known options
@@ -379,6 +413,8 @@ pub spelled_is_found : (words : List Text) (line : Line) → Spells words line �
 spelled_is_found words replay end = replay_found words (after_command (codes "replay") [] words end)
 spelled_is_found words (create options) (are, end) = given_finds (codes "create") create_options has_create words options are end
 spelled_is_found words (serve options) (are, end) = given_finds (codes "serve") serve_options has_serve words options are end
+spelled_is_found words (collect options) (are, end) =
+    given_finds (codes "collect") collect_options has_collect words options are end
 spelled_is_found words (churn steps seed) (rest, is, are) = (
   rows_after places.rules [] rest,
   rw is (churn_meets rest),
@@ -405,13 +441,6 @@ pub error_of_faulty : (kinds : Kinds) (error : Error) → HasKind kinds error �
 error_of_faulty kinds error (inl memory) other none = other memory
 error_of_faulty kinds error (inr among) other none = absurd (subst (IsAmong (kind_of error)) none among)
 
--- the first word of a line
-abbrev command_of : Line → Text
-command_of replay = codes "replay"
-command_of (create options) = codes "create"
-command_of (serve options) = codes "serve"
-command_of (churn steps seed) = codes "churn"
-
 first_is : (command : Text) (options : List Text) (first : Text) (rest : List Text) → MayEnd (command ∷ options) (first ∷ rest)
     → first ≡ command
 first_is command options first rest end = go (after_command command options (first ∷ rest) end)
@@ -423,6 +452,7 @@ first_of_line : (first : Text) (rest : List Text) (line : Line) → Spells (firs
 first_of_line first rest replay end = first_is (codes "replay") [] first rest end
 first_of_line first rest (create options) (are, end) = first_is (codes "create") (flat_map option_words options) first rest end
 first_of_line first rest (serve options) (are, end) = first_is (codes "serve") (flat_map option_words options) first rest end
+first_of_line first rest (collect options) (are, end) = first_is (codes "collect") (flat_map option_words options) first rest end
 first_of_line first rest (churn steps seed) (more, is, are) = cc
 
 pub spells_a_command : (first : Text) (rest : List Text) (line : Line) → Spells (first ∷ rest) line
@@ -433,7 +463,8 @@ spells_a_command first rest line spelled others = go line (first_of_line first r
     go replay is = others 0 [] (lit< tt) (sym is)
     go (create options) is = others 1 [] (lit< tt) (sym is)
     go (serve options) is = others 2 [] (lit< tt) (sym is)
-    go (churn steps seed) is = others 3 [] (lit< tt) (sym is)
+    go (collect options) is = others 3 [] (lit< tt) (sym is)
+    go (churn steps seed) is = others 4 [] (lit< tt) (sym is)
 
 pub nothing_is_spelled : (line : Line) → Spells [] line → ⊥
 nothing_is_spelled replay (inl is) = cc
@@ -442,6 +473,8 @@ nothing_is_spelled (create options) (are, inl is) = cc
 nothing_is_spelled (create options) (are, inr is) = cc
 nothing_is_spelled (serve options) (are, inl is) = cc
 nothing_is_spelled (serve options) (are, inr is) = cc
+nothing_is_spelled (collect options) (are, inl is) = cc
+nothing_is_spelled (collect options) (are, inr is) = cc
 nothing_is_spelled (churn steps seed) (rest, is, are) = cc
 
 -- an error of words that ask for help is the answer to it
@@ -496,18 +529,23 @@ unfolding clap_on_literals
 churn_asks option rest (inl is) = rw is (inl refl)
 churn_asks option rest (inr is) = rw is (inl refl)
 
+given_asks : (command : Text) (known : Known) (has : Has command known) (option : Text) (rest : List Text) → IsHelpOption option
+    → AsksForHelp (command ∷ option ∷ rest)
+given_asks command known has option rest is =
+    inl (after_holds command known has (IsAmong DisplayHelp) (among_first DisplayHelp) (option ∷ rest) (has.asks option rest is))
+
 pub second_asks : (option : Text) (rest : List Text) → IsHelpOption option
     → All (λ command. AsksForHelp (command ∷ option ∷ rest)) commands
 second_asks option rest is =
-    All-cons (λ command. AsksForHelp (command ∷ option ∷ rest)) (codes "replay")
-    (codes "create" ∷ codes "serve" ∷ codes "churn" ∷ [])
+    let Asks : Text → Type 0 = λ command. AsksForHelp (command ∷ option ∷ rest) in
+    All-cons Asks (codes "replay") (codes "create" ∷ codes "serve" ∷ codes "collect" ∷ codes "churn" ∷ [])
     (inl (after_replay_holds (IsAmong DisplayHelp) (among_first DisplayHelp) (option ∷ rest) (replay_asks option rest is)))
-    (All-cons (λ command. AsksForHelp (command ∷ option ∷ rest)) (codes "create") (codes "serve" ∷ codes "churn" ∷ [])
-    (inl (after_holds (codes "create") create_options has_create (IsAmong DisplayHelp) (among_first DisplayHelp) (option ∷ rest)
-    (has_create.asks option rest is)))
-    (All-cons (λ command. AsksForHelp (command ∷ option ∷ rest)) (codes "serve") (codes "churn" ∷ [])
-    (inl (after_holds (codes "serve") serve_options has_serve (IsAmong DisplayHelp) (among_first DisplayHelp) (option ∷ rest)
-    (has_serve.asks option rest is)))
-    (All-cons (λ command. AsksForHelp (command ∷ option ∷ rest)) (codes "churn") []
+    (All-cons Asks (codes "create") (codes "serve" ∷ codes "collect" ∷ codes "churn" ∷ [])
+    (given_asks (codes "create") create_options has_create option rest is)
+    (All-cons Asks (codes "serve") (codes "collect" ∷ codes "churn" ∷ [])
+    (given_asks (codes "serve") serve_options has_serve option rest is)
+    (All-cons Asks (codes "collect") (codes "churn" ∷ [])
+    (given_asks (codes "collect") collect_options has_collect option rest is)
+    (All-cons Asks (codes "churn") []
     (inl (after_churn_holds (IsAmong DisplayHelp) (among_first DisplayHelp) (option ∷ rest) (churn_asks option rest is)))
-    (All-nil (λ command. AsksForHelp (command ∷ option ∷ rest))))))
+    (All-nil Asks)))))

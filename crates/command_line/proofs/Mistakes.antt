@@ -26,7 +26,8 @@ use Rattle.clap.specs.declared.builder.command.Command.TheViews.{out-Command}
 use Rattle.clap.specs.declared.error.Error.{Error}
 use Rattle.clap.specs.declared.error.kind.ErrorKind.{ErrorKind}
 use Rattle.clap.specs.declared.error.kind.ErrorKind.TheVariants.{OutOfMemory}
-use Rattle.command_line.specs.CommandLine.{IsFaulty, Line, Spells, churn, commands, create, faults_of, replay, serve}
+use Rattle.command_line.specs.CommandLine.{IsFaulty, Line, Spells, commands, faults_of}
+use Rattle.command_line.specs.Collect.{collect_options}
 use Rattle.command_line.specs.Create.{create_options}
 use Rattle.command_line.specs.Mistake.{IsGivenOption, IsTrueOf, IsTrueOfCommand, IsTrueOfMet, IsTrueOfOptions, IsTrueOfValues}
 use Rattle.command_line.specs.Mistake.{by_options, by_values, by_words, before_value, gives, has_option, has_value}
@@ -40,7 +41,7 @@ use Rattle.command_line.specs.declared.mistake.Mistake.{Mistake}
 use Rattle.command_line.specs.declared.mistake.Mistake.TheVariants.{UnknownOption, StrayWord, NoValue, FlagValue, Twice, Missing}
 use Rattle.command_line.specs.declared.mistake.Mistake.TheVariants.{Other}
 use Rattle.command_line.proofs.Lines.{IsFound}
-use Rattle.command_line.proofs.Requests.{other_command, values_met, words_met}
+use Rattle.command_line.proofs.Requests.{values_met}
 
 -- ---- clap refuses the words
 
@@ -58,35 +59,8 @@ error_is_faulty words error kind is (inr among) other =
 pub met_is_true : (words : List Text) (line : Line) (met : Option (Text × List Row)) (mistake : Mistake) → Spells words line
     → IsFound line met
     → IsTrueOfMet met mistake → IsTrueOf words mistake
-met_is_true words replay met mistake spelled (rows, is) (inl (others, also, holds)) =
-    absurd (other_command (codes "replay") (codes "create") rows others met refl is also)
-met_is_true words replay met mistake spelled (rows, is) (inr (inl (others, also, holds))) =
-    absurd (other_command (codes "replay") (codes "serve") rows others met refl is also)
-met_is_true words replay met mistake spelled (rows, is) (inr (inr (others, also, holds))) =
-    absurd (other_command (codes "replay") (codes "churn") rows others met refl is also)
-met_is_true words (create options) met mistake spelled (rows, is, same) (inl (others, also, holds)) =
-    by_values (create options) spelled
-    (values_met (λ value. IsTrueOfValues value mistake) (codes "create") create_options options met rows others is also
-    same holds)
-met_is_true words (create options) met mistake spelled (rows, is, same) (inr (inl (others, also, holds))) =
-    absurd (other_command (codes "create") (codes "serve") rows others met refl is also)
-met_is_true words (create options) met mistake spelled (rows, is, same) (inr (inr (others, also, holds))) =
-    absurd (other_command (codes "create") (codes "churn") rows others met refl is also)
-met_is_true words (serve options) met mistake spelled (rows, is, same) (inl (others, also, holds)) =
-    absurd (other_command (codes "serve") (codes "create") rows others met refl is also)
-met_is_true words (serve options) met mistake spelled (rows, is, same) (inr (inl (others, also, holds))) =
-    by_values (serve options) spelled
-    (values_met (λ value. IsTrueOfValues value mistake) (codes "serve") serve_options options met rows others is also
-    same holds)
-met_is_true words (serve options) met mistake spelled (rows, is, same) (inr (inr (others, also, holds))) =
-    absurd (other_command (codes "serve") (codes "churn") rows others met refl is also)
-met_is_true words (churn steps seed) met mistake spelled (rows, is, same) (inl (others, also, holds)) =
-    absurd (other_command (codes "churn") (codes "create") rows others met refl is also)
-met_is_true words (churn steps seed) met mistake spelled (rows, is, same) (inr (inl (others, also, holds))) =
-    absurd (other_command (codes "churn") (codes "serve") rows others met refl is also)
-met_is_true words (churn steps seed) met mistake spelled (rows, is, same) (inr (inr (others, also, holds))) =
-    by_values (churn steps seed) spelled
-    (words_met (λ value. IsTrueOfValues value mistake) steps seed met rows others is also same holds)
+met_is_true words line met mistake spelled found (command, rows, is, holds) =
+    by_values line spelled (values_met (λ value. IsTrueOfValues value mistake) line met command rows found is holds)
 
 pub found_or_other : (words : List Text) (line : Line) (met : Option (Text × List Row)) (found : Option Mistake)
     → Spells words line
@@ -121,7 +95,7 @@ abbrev Shapes : Type 0
 Shapes = List Shape
 
 abbrev shapes : Shapes
-shapes = program.replay ∷ program.create ∷ program.serve ∷ program.churn ∷ []
+shapes = program.replay ∷ program.create ∷ program.serve ∷ program.collect ∷ program.churn ∷ []
 
 subs_are : lsvdctl.subs ≡ shapes
 unfolding lsvdctl
@@ -143,19 +117,23 @@ shape_is word name shape known same is command =
 found_among : (word : Text) (shape : Shape) → Some shape ≡ find (λ s. answers_to word (label_of s)) shapes → IsCommand word shape
 found_among word shape is =
     go (bytes_eq (codes "replay") word) (bytes_eq (codes "create") word) (bytes_eq (codes "serve") word)
-    (bytes_eq (codes "churn") word) refl refl refl refl
+    (bytes_eq (codes "collect") word) (bytes_eq (codes "churn") word) refl refl refl refl refl
   where
-    go : (first second third last : Bool) → bytes_eq (codes "replay") word ≡ first → bytes_eq (codes "create") word ≡ second
-        → bytes_eq (codes "serve") word ≡ third → bytes_eq (codes "churn") word ≡ last → IsCommand word shape
-    go true second third last e f g h = shape_is word (codes "replay") shape program.replay e (rw e at is)
+    go : (first second third fourth last : Bool) → bytes_eq (codes "replay") word ≡ first
+        → bytes_eq (codes "create") word ≡ second → bytes_eq (codes "serve") word ≡ third
+        → bytes_eq (codes "collect") word ≡ fourth → bytes_eq (codes "churn") word ≡ last
+        → IsCommand word shape
+    go true second third fourth last e f g h k = shape_is word (codes "replay") shape program.replay e (rw e at is)
         (record { name = refl; options = []; rules = refl; are = refl })
-    go false true third last e f g h = shape_is word (codes "create") shape program.create f (rw (e, f) at is)
+    go false true third fourth last e f g h k = shape_is word (codes "create") shape program.create f (rw (e, f) at is)
         (record { name = refl; options = create_options; rules = refl; are = refl })
-    go false false true last e f g h = shape_is word (codes "serve") shape program.serve g (rw (e, f, g) at is)
+    go false false true fourth last e f g h k = shape_is word (codes "serve") shape program.serve g (rw (e, f, g) at is)
         (record { name = refl; options = serve_options; rules = refl; are = refl })
-    go false false false true e f g h = shape_is word (codes "churn") shape program.churn h (rw (e, f, g, h) at is)
+    go false false false true last e f g h k = shape_is word (codes "collect") shape program.collect h (rw (e, f, g, h) at is)
+        (record { name = refl; options = collect_options; rules = refl; are = refl })
+    go false false false false true e f g h k = shape_is word (codes "churn") shape program.churn k (rw (e, f, g, h, k) at is)
         (record { name = refl; options = []; rules = refl; are = refl })
-    go false false false false e f g h = let bad : Some shape ≡ None = rw (e, f, g, h) at is in cc
+    go false false false false false e f g h k = let bad : Some shape ≡ None = rw (e, f, g, h, k) at is in cc
 
 abbrev IsNot : Text → Text → Type 0
 IsNot word command = command ≢ word
@@ -163,20 +141,27 @@ IsNot word command = command ≢ word
 none_among : (word : Text) → None ≡ find (λ s. answers_to word (label_of s)) shapes → All (λ command. command ≢ word) commands
 none_among word is =
     go (bytes_eq (codes "replay") word) (bytes_eq (codes "create") word) (bytes_eq (codes "serve") word)
-    (bytes_eq (codes "churn") word) refl refl refl refl
+    (bytes_eq (codes "collect") word) (bytes_eq (codes "churn") word) refl refl refl refl refl
   where
-    go : (first second third last : Bool) → bytes_eq (codes "replay") word ≡ first → bytes_eq (codes "create") word ≡ second
-        → bytes_eq (codes "serve") word ≡ third → bytes_eq (codes "churn") word ≡ last → All (λ command. command ≢ word) commands
-    go true second third last e f g h = let bad : None ≡ Some program.replay = rw e at is in cc
-    go false true third last e f g h = let bad : None ≡ Some program.create = rw (e, f) at is in cc
-    go false false true last e f g h = let bad : None ≡ Some program.serve = rw (e, f, g) at is in cc
-    go false false false true e f g h = let bad : None ≡ Some program.churn = rw (e, f, g, h) at is in cc
-    go false false false false e f g h =
-        All-cons (IsNot word) (codes "replay") (codes "create" ∷ codes "serve" ∷ codes "churn" ∷ [])
+    go : (first second third fourth last : Bool) → bytes_eq (codes "replay") word ≡ first
+        → bytes_eq (codes "create") word ≡ second → bytes_eq (codes "serve") word ≡ third
+        → bytes_eq (codes "collect") word ≡ fourth → bytes_eq (codes "churn") word ≡ last
+        → All (λ command. command ≢ word) commands
+    go true second third fourth last e f g h k = let bad : None ≡ Some program.replay = rw e at is in cc
+    go false true third fourth last e f g h k = let bad : None ≡ Some program.create = rw (e, f) at is in cc
+    go false false true fourth last e f g h k = let bad : None ≡ Some program.serve = rw (e, f, g) at is in cc
+    go false false false true last e f g h k = let bad : None ≡ Some program.collect = rw (e, f, g, h) at is in cc
+    go false false false false true e f g h k = let bad : None ≡ Some program.churn = rw (e, f, g, h, k) at is in cc
+    go false false false false false e f g h k =
+        All-cons (IsNot word) (codes "replay") (codes "create" ∷ codes "serve" ∷ codes "collect" ∷ codes "churn" ∷ [])
         (differ (codes "replay") word e)
-        (All-cons (IsNot word) (codes "create") (codes "serve" ∷ codes "churn" ∷ []) (differ (codes "create") word f)
-        (All-cons (IsNot word) (codes "serve") (codes "churn" ∷ []) (differ (codes "serve") word g)
-        (All-cons (IsNot word) (codes "churn") [] (differ (codes "churn") word h) (All-nil (IsNot word)))))
+        (All-cons (IsNot word) (codes "create") (codes "serve" ∷ codes "collect" ∷ codes "churn" ∷ [])
+        (differ (codes "create") word f)
+        (All-cons (IsNot word) (codes "serve") (codes "collect" ∷ codes "churn" ∷ [])
+        (differ (codes "serve") word g)
+        (All-cons (IsNot word) (codes "collect") (codes "churn" ∷ [])
+        (differ (codes "collect") word h)
+        (All-cons (IsNot word) (codes "churn") [] (differ (codes "churn") word k) (All-nil (IsNot word))))))
 
 -- the same, by what clap found in the program
 pub command_found : (app : App) (word : Text) (shape : Shape) → app ≡ lsvdctl

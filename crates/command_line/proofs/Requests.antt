@@ -20,10 +20,14 @@ use Rattle.lsvd_base.specs.Limits.{is_within_limits}
 use Rattle.lsvd_base.specs.declared.geometry.Geometry.{Geometry}
 use Rattle.command_line.specs.Churn.{AsksToChurn, HasBadNumber, churn_value}
 use Rattle.command_line.specs.Churn as churning
-use Rattle.command_line.specs.CommandLine.{HasBadOptions, IsAskedBy, IsRead, Line, Spells, churn, create, replay, serve}
+use Rattle.command_line.specs.Collect.{AreValidToCollect, collect_options, collect_value}
+use Rattle.command_line.specs.CommandLine.{HasBadOptions, IsAskedBy, IsRead, Line, Spells, churn, collect, create, replay, serve}
 use Rattle.command_line.specs.Create.{AreValid, AsksToCreate, HasBadUuid, HasBadValue, batch, create_options, limits, log}
 use Rattle.command_line.specs.Create.{max_write, sectors, uuid, value_in}
-use Rattle.command_line.specs.Met.{IsMadeOf, LacksRequired, LacksServeValue, LacksValue, MakesNone, value_among}
+use Rattle.command_line.specs.Met.{IsMadeOf, LacksMountValue, LacksRequired, LacksServeValue, LacksValue, MakesNone, value_among}
+use Rattle.command_line.specs.Mistake.{line_value}
+use Rattle.command_line.specs.Mount.{AsksToMount, HasBadMountValue}
+use Rattle.command_line.specs.Mount as mounting
 use Rattle.command_line.specs.Options.{AreOptionsOf, Given, has_option, has_required, is_required, name_in, option_name, text_in}
 use Rattle.command_line.specs.Options.{value_of}
 use Rattle.command_line.specs.Serve.{AreValidToServe, AsksToServe, HasBadServeValue, serve_options, serve_value}
@@ -32,18 +36,12 @@ use Rattle.command_line.specs.Values.{IsNoUuid, LacksBetween, MayBeBetween}
 use Rattle.command_line.specs.declared.request.CommandLineError.{CommandLineError}
 use Rattle.command_line.specs.declared.request.CommandLineError.TheVariants.{Usage, OutOfMemory}
 use Rattle.command_line.specs.declared.request.Request.{Request}
-use Rattle.command_line.specs.declared.request.Request.TheVariants.{Replay, Create, Serve, Churn}
-use Rattle.command_line.proofs.Lines.{IsFound}
+use Rattle.command_line.specs.declared.request.Request.TheVariants.{Replay, Create, Serve, Collect, Churn}
+use Rattle.command_line.proofs.Lines.{IsFound, command_of}
 use Rattle.command_line.proofs.Numbers.{decimal_stands}
 use Rattle.command_line.proofs.Rows.{any_found}
 use Rattle.command_line.proofs.Rules.{Known}
 use Rattle.command_line.proofs.Spelled.{same_number}
-
--- the values that clap found are those that are given
-same_values : (known : Known) (options : List Given) (rows : List Row)
-    → ((name : Text) → value_among rows name ≡ value_of known options name)
-    → value_among rows ≡ value_of known options
-same_values known options rows same = fun_ext same
 
 -- an option that is given has a value
 has_value : (known : Known) (options : List Given) (name : Text) → has_option name options ≡ true
@@ -98,25 +96,12 @@ other_command first second rows others met differ is also =
     let same : first ≡ second = ap name_met (sym is ∙ also) in
     let bad : true ≡ false = sym ((bytes_eq-Decides first second).1 same) ∙ differ in cc
 
--- what holds of the values that the command has, where it was met with them
-pub values_met : (P : (Text → Option Text) → Type 0) (command : Text) (known : Known) (options : List Given)
-    (met : Option (Text × List Row))
-    (rows others : List Row)
-    → met ≡ met_as command rows → met ≡ met_as command others
-    → ((name : Text) → value_among rows name ≡ value_of known options name)
-    → P (value_among others) → P (value_of known options)
-values_met P command known options met rows others is also same holds =
-    let equal : others ≡ rows = ap rows_met (sym also ∙ is) in
-    subst P (ap value_among equal ∙ same_values known options rows same) holds
-
--- and so of the two words of `churn`
-pub words_met : (P : (Text → Option Text) → Type 0) (steps seed : Text) (met : Option (Text × List Row)) (rows others : List Row)
-    → met ≡ met_as (codes "churn") rows → met ≡ met_as (codes "churn") others
-    → ((name : Text) → value_among rows name ≡ churn_value steps seed name)
-    → P (value_among others) → P (churn_value steps seed)
-words_met P steps seed met rows others is also same holds =
-    let equal : others ≡ rows = ap rows_met (sym also ∙ is) in
-    let values : value_among rows ≡ churn_value steps seed = fun_ext same in
+-- what holds of the values that clap met is that of the values of the line
+pub values_met : (P : (Text → Option Text) → Type 0) (line : Line) (met : Option (Text × List Row)) (command : Text)
+    (rows : List Row) → IsFound line met → met ≡ met_as command rows → P (value_among rows) → P (line_value line)
+values_met P line met command rows (found, is, same) also holds =
+    let equal : rows ≡ found = ap rows_met (sym also ∙ is) in
+    let values : value_among found ≡ line_value line = fun_ext same in
     subst P (ap value_among equal ∙ values) holds
 
 -- ---- what a command makes
@@ -142,6 +127,7 @@ creates_none met rows is lacks = record {
   replay = λ others also. other_command (codes "create") (codes "replay") rows others met refl is also;
   create = λ others also. subst (λ (r : List Row). LacksValue (value_among r)) (ap rows_met (sym is ∙ also)) lacks;
   serve = λ others also. absurd (other_command (codes "create") (codes "serve") rows others met refl is also);
+  collect = λ others also. absurd (other_command (codes "create") (codes "collect") rows others met refl is also);
   churn = λ others also. absurd (other_command (codes "create") (codes "churn") rows others met refl is also);
 }
 
@@ -152,7 +138,19 @@ serves_none met rows is lacks = record {
   replay = λ others also. other_command (codes "serve") (codes "replay") rows others met refl is also;
   create = λ others also. absurd (other_command (codes "serve") (codes "create") rows others met refl is also);
   serve = λ others also. subst (λ (r : List Row). LacksServeValue (value_among r)) (ap rows_met (sym is ∙ also)) lacks;
+  collect = λ others also. absurd (other_command (codes "serve") (codes "collect") rows others met refl is also);
   churn = λ others also. absurd (other_command (codes "serve") (codes "churn") rows others met refl is also);
+}
+
+pub collects_none : (met : Option (Text × List Row)) (rows : List Row) → met ≡ met_as (codes "collect") rows
+    → LacksMountValue (value_among rows)
+    → MakesNone met
+collects_none met rows is lacks = record {
+  replay = λ others also. other_command (codes "collect") (codes "replay") rows others met refl is also;
+  create = λ others also. absurd (other_command (codes "collect") (codes "create") rows others met refl is also);
+  serve = λ others also. absurd (other_command (codes "collect") (codes "serve") rows others met refl is also);
+  collect = λ others also. subst (λ (r : List Row). LacksMountValue (value_among r)) (ap rows_met (sym is ∙ also)) lacks;
+  churn = λ others also. absurd (other_command (codes "collect") (codes "churn") rows others met refl is also);
 }
 
 pub churns_none : (met : Option (Text × List Row)) (rows : List Row) → met ≡ met_as (codes "churn") rows
@@ -162,63 +160,100 @@ churns_none met rows is lacks = record {
   replay = λ others also. other_command (codes "churn") (codes "replay") rows others met refl is also;
   create = λ others also. absurd (other_command (codes "churn") (codes "create") rows others met refl is also);
   serve = λ others also. absurd (other_command (codes "churn") (codes "serve") rows others met refl is also);
+  collect = λ others also. absurd (other_command (codes "churn") (codes "collect") rows others met refl is also);
   churn = λ others also. subst (λ (r : List Row). HasBadNumber (value_among r)) (ap rows_met (sym is ∙ also)) lacks;
 }
 
 -- ---- what a line asks for
 
+-- the command of a request
+abbrev command_for : Request → Text
+command_for Replay = codes "replay"
+command_for (Create asked) = codes "create"
+command_for (Serve asked) = codes "serve"
+command_for (Collect asked) = codes "collect"
+command_for (Churn asked) = codes "churn"
+
+-- it is what clap met
+made_as : (met : Option (Text × List Row)) (request : Request) → IsMadeOf met request
+    → (rows : List Row) × (met ≡ met_as (command_for request) rows)
+made_as met Replay (rows, is) = (rows, is)
+made_as met (Create asked) (rows, is, asks) = (rows, is)
+made_as met (Serve asked) (rows, is, asks) = (rows, is)
+made_as met (Collect asked) (rows, is, asks) = (rows, is)
+made_as met (Churn asked) (rows, is, asks) = (rows, is)
+
+-- so no line makes the request of another command
+apart : (line : Line) (request : Request) (met : Option (Text × List Row))
+    → bytes_eq (command_of line) (command_for request) ≡ false
+    → IsFound line met
+    → IsMadeOf met request → ⊥
+apart line request met differ (rows, is, same) made =
+    let (others, also) = made_as met request made in
+    other_command (command_of line) (command_for request) rows others met differ is also
+
 pub found_asks : (line : Line) (met : Option (Text × List Row)) (request : Request) → IsFound line met → IsMadeOf met request
     → IsAskedBy line request
 found_asks replay met Replay found made = tt
-found_asks replay met (Create request) (rows, is) (others, also, asks) =
-    absurd (other_command (codes "replay") (codes "create") rows others met refl is also)
-found_asks replay met (Serve request) (rows, is) (others, also, asks) =
-    absurd (other_command (codes "replay") (codes "serve") rows others met refl is also)
-found_asks replay met (Churn request) (rows, is) (others, also, asks) =
-    absurd (other_command (codes "replay") (codes "churn") rows others met refl is also)
-found_asks (create options) met Replay (rows, is, same) (others, also) =
-    absurd (other_command (codes "create") (codes "replay") rows others met refl is also)
-found_asks (create options) met (Create request) (rows, is, same) (others, also, asks) =
-    values_met (λ value. AsksToCreate value request) (codes "create") create_options options met rows others is also same asks
-found_asks (create options) met (Serve request) (rows, is, same) (others, also, asks) =
-    absurd (other_command (codes "create") (codes "serve") rows others met refl is also)
-found_asks (create options) met (Churn request) (rows, is, same) (others, also, asks) =
-    absurd (other_command (codes "create") (codes "churn") rows others met refl is also)
-found_asks (serve options) met Replay (rows, is, same) (others, also) =
-    absurd (other_command (codes "serve") (codes "replay") rows others met refl is also)
-found_asks (serve options) met (Create request) (rows, is, same) (others, also, asks) =
-    absurd (other_command (codes "serve") (codes "create") rows others met refl is also)
-found_asks (serve options) met (Serve request) (rows, is, same) (others, also, asks) =
-    values_met (λ value. AsksToServe value request) (codes "serve") serve_options options met rows others is also same asks
-found_asks (serve options) met (Churn request) (rows, is, same) (others, also, asks) =
-    absurd (other_command (codes "serve") (codes "churn") rows others met refl is also)
-found_asks (churn steps seed) met Replay (rows, is, same) (others, also) =
-    absurd (other_command (codes "churn") (codes "replay") rows others met refl is also)
-found_asks (churn steps seed) met (Create request) (rows, is, same) (others, also, asks) =
-    absurd (other_command (codes "churn") (codes "create") rows others met refl is also)
-found_asks (churn steps seed) met (Serve request) (rows, is, same) (others, also, asks) =
-    absurd (other_command (codes "churn") (codes "serve") rows others met refl is also)
-found_asks (churn steps seed) met (Churn request) (rows, is, same) (others, also, asks) =
-    words_met (λ value. AsksToChurn value request) steps seed met rows others is also same asks
+found_asks replay met (Create asked) found made = absurd (apart replay (Create asked) met refl found made)
+found_asks replay met (Serve asked) found made = absurd (apart replay (Serve asked) met refl found made)
+found_asks replay met (Collect asked) found made = absurd (apart replay (Collect asked) met refl found made)
+found_asks replay met (Churn asked) found made = absurd (apart replay (Churn asked) met refl found made)
+found_asks (create options) met Replay found made = absurd (apart (create options) Replay met refl found made)
+found_asks (create options) met (Create asked) found (rows, is, asks) =
+    values_met (λ value. AsksToCreate value asked) (create options) met (codes "create") rows found is asks
+found_asks (create options) met (Serve asked) found made = absurd (apart (create options) (Serve asked) met refl found made)
+found_asks (create options) met (Collect asked) found made = absurd (apart (create options) (Collect asked) met refl found made)
+found_asks (create options) met (Churn asked) found made = absurd (apart (create options) (Churn asked) met refl found made)
+found_asks (serve options) met Replay found made = absurd (apart (serve options) Replay met refl found made)
+found_asks (serve options) met (Create asked) found made = absurd (apart (serve options) (Create asked) met refl found made)
+found_asks (serve options) met (Serve asked) found (rows, is, asks) =
+    values_met (λ value. AsksToServe value asked) (serve options) met (codes "serve") rows found is asks
+found_asks (serve options) met (Collect asked) found made = absurd (apart (serve options) (Collect asked) met refl found made)
+found_asks (serve options) met (Churn asked) found made = absurd (apart (serve options) (Churn asked) met refl found made)
+found_asks (collect options) met Replay found made = absurd (apart (collect options) Replay met refl found made)
+found_asks (collect options) met (Create asked) found made = absurd (apart (collect options) (Create asked) met refl found made)
+found_asks (collect options) met (Serve asked) found made = absurd (apart (collect options) (Serve asked) met refl found made)
+found_asks (collect options) met (Collect asked) found (rows, is, asks) =
+    values_met (λ value. AsksToMount value asked) (collect options) met (codes "collect") rows found is asks
+found_asks (collect options) met (Churn asked) found made = absurd (apart (collect options) (Churn asked) met refl found made)
+found_asks (churn steps seed) met Replay found made = absurd (apart (churn steps seed) Replay met refl found made)
+found_asks (churn steps seed) met (Create asked) found made = absurd (apart (churn steps seed) (Create asked) met refl found made)
+found_asks (churn steps seed) met (Serve asked) found made = absurd (apart (churn steps seed) (Serve asked) met refl found made)
+found_asks (churn steps seed) met (Collect asked) found made =
+    absurd (apart (churn steps seed) (Collect asked) met refl found made)
+found_asks (churn steps seed) met (Churn asked) found (rows, is, asks) =
+    values_met (λ value. AsksToChurn value asked) (churn steps seed) met (codes "churn") rows found is asks
+
+-- an option that a mount asks for is given to a command that asks for it
+mount_lacks : (options : List Given) → AreOptionsOf collect_options options → LacksMountValue (collect_value options)
+    → HasBadMountValue (collect_value options)
+mount_lacks options are (inl bad) = bad
+mount_lacks options are (inr (inl (inl none))) = absurd (lacks_none collect_options options are (codes "store", refl, none))
+mount_lacks options are (inr (inl (inr none))) = absurd (lacks_none collect_options options are (codes "cache", refl, none))
+mount_lacks options are (inr (inr none)) = absurd (lacks_none collect_options options are (codes "volume", refl, none))
 
 pub found_asks_nothing : (words : List Text) (line : Line) (met : Option (Text × List Row)) → Spells words line → IsFound line met
     → MakesNone met
     → HasBadOptions line
-found_asks_nothing words replay met spelled (rows, is) makes = makes.replay rows is
+found_asks_nothing words replay met spelled (rows, is, same) makes = makes.replay rows is
 found_asks_nothing words (create options) met (are, end) (rows, is, same) makes =
-    go (values_met LacksValue (codes "create") create_options options met rows rows is is same (makes.create rows is))
+    go (values_met LacksValue (create options) met (codes "create") rows (rows, is, same) is (makes.create rows is))
   where
     go : LacksValue (value_in options) → HasBadValue (value_in options)
     go (inl bad) = bad
     go (inr lacks) = absurd (lacks_none create_options options are lacks)
 found_asks_nothing words (serve options) met (are, end) (rows, is, same) makes =
-    go (values_met LacksServeValue (codes "serve") serve_options options met rows rows is is same (makes.serve rows is))
+    go (values_met LacksServeValue (serve options) met (codes "serve") rows (rows, is, same) is (makes.serve rows is))
   where
     go : LacksServeValue (serve_value options) → HasBadServeValue (serve_value options)
     go (inl bad) = bad
     go (inr lacks) = absurd (lacks_none serve_options options are lacks)
+found_asks_nothing words (collect options) met (are, end) (rows, is, same) makes =
+    mount_lacks options are
+    (values_met LacksMountValue (collect options) met (codes "collect") rows (rows, is, same) is (makes.collect rows is))
 found_asks_nothing words (churn steps seed) met spelled (rows, is, same) makes =
-    words_met HasBadNumber steps seed met rows rows is is same (makes.churn rows is)
+    values_met HasBadNumber (churn steps seed) met (codes "churn") rows (rows, is, same) is (makes.churn rows is)
 
 -- ---- what follows of the way in which a line is read
 
@@ -229,9 +264,16 @@ pub replay_is_read : (result : Answer) → IsRead replay result → (result ≡ 
 replay_is_read (Ok Replay) read = inl refl
 replay_is_read (Ok (Create request)) read = absurd read
 replay_is_read (Ok (Serve request)) read = absurd read
+replay_is_read (Ok (Collect request)) read = absurd read
 replay_is_read (Ok (Churn request)) read = absurd read
 replay_is_read (Err Usage) read = absurd read
 replay_is_read (Err OutOfMemory) read = inr refl
+
+-- a line is told to be none only where its values ask for nothing
+usage_is_read : (line : Line) (result : Answer) → IsRead line result → IsErrOf result Usage → HasBadOptions line
+usage_is_read line (Ok request) read usage = let bad : Ok request ≡ Err Usage = usage in cc
+usage_is_read line (Err OutOfMemory) read usage = let bad : Err OutOfMemory ≡ Err Usage = usage in cc
+usage_is_read line (Err Usage) read usage = read
 
 -- sizes that keep the limits that each has by itself
 short_log : (options : List Given) (sizes : Geometry) → AreValid options sizes → is_within_limits sizes ≡ false
@@ -261,20 +303,23 @@ pub valid_is_read : (options : List Given) (sizes : Geometry) (result : Answer) 
     → IsRead (create options) result
     → IsErrOf result Usage
     → HasBadUuid (value_in options) ⊎ (sizes.log < 2 * (sizes.max_write + 1))
-valid_is_read options sizes (Ok request) valid read usage = let bad : Ok request ≡ Err Usage = usage in cc
-valid_is_read options sizes (Err OutOfMemory) valid read usage = let bad : Err OutOfMemory ≡ Err Usage = usage in cc
-valid_is_read options sizes (Err Usage) valid read usage = bad_valid options sizes valid read
+valid_is_read options sizes result valid read usage =
+    bad_valid options sizes valid (usage_is_read (create options) result read usage)
 
 log_is_given : (value : Text → Option Text) (least most : ℕ) (sectors : Option ℕ) → value (codes "log") ≢ None
     → MayBeBetween value (codes "log") least most sectors → LacksBetween value (codes "log") least most → ⊥
 log_is_given value least most None some none lacks = some none
 log_is_given value least most (Some n) some is lacks = lacks n is
 
+-- of a mount whose log keeps its limits the uuid alone can be bad
+bad_mount_valid : (value : Text → Option Text) (n : Option ℕ) → MayBeBetween value (codes "log") 0 (2 ^ 31) n
+    → HasBadMountValue value → IsNoUuid value (codes "volume")
+bad_mount_valid value n within (mounting.volume bad) = bad
+bad_mount_valid value n within (mounting.log some lacks) = absurd (log_is_given value 0 (2 ^ 31) n some within lacks)
+
 bad_serve_valid : (options : List Given) → AreValidToServe options → HasBadServeValue (serve_value options)
     → IsNoUuid (serve_value options) (codes "volume")
-bad_serve_valid options valid (serving.volume bad) = bad
-bad_serve_valid options valid (serving.log some lacks) =
-    absurd (log_is_given (serve_value options) 0 (2 ^ 31) valid.log.0 some valid.log.1 lacks)
+bad_serve_valid options valid (serving.mount bad) = bad_mount_valid (serve_value options) valid.log.0 valid.log.1 bad
 bad_serve_valid options valid (serving.workers lacks) = absurd (lacks valid.workers.0 valid.workers.1)
 bad_serve_valid options valid (serving.lanes lacks) = absurd (lacks valid.lanes.0 valid.lanes.1)
 bad_serve_valid options valid (serving.sessions lacks) = absurd (lacks valid.sessions.0 valid.sessions.1)
@@ -282,9 +327,14 @@ bad_serve_valid options valid (serving.sessions lacks) = absurd (lacks valid.ses
 pub serve_valid_is_read : (options : List Given) (result : Answer) → AreValidToServe options → IsRead (serve options) result
     → IsErrOf result Usage
     → IsNoUuid (serve_value options) (codes "volume")
-serve_valid_is_read options (Ok request) valid read usage = let bad : Ok request ≡ Err Usage = usage in cc
-serve_valid_is_read options (Err OutOfMemory) valid read usage = let bad : Err OutOfMemory ≡ Err Usage = usage in cc
-serve_valid_is_read options (Err Usage) valid read usage = bad_serve_valid options valid read
+serve_valid_is_read options result valid read usage =
+    bad_serve_valid options valid (usage_is_read (serve options) result read usage)
+
+pub collect_valid_is_read : (options : List Given) (result : Answer) → AreValidToCollect options → IsRead (collect options) result
+    → IsErrOf result Usage
+    → IsNoUuid (collect_value options) (codes "volume")
+collect_valid_is_read options result valid read usage =
+    bad_mount_valid (collect_value options) valid.log.0 valid.log.1 (usage_is_read (collect options) result read usage)
 
 -- two numbers in their limits are no bad words
 bad_churn_valid : (steps seed : ℕ) → steps ≤ 1000000 → seed < 2 ^ 64 → HasBadNumber (churn_value (decimal steps) (decimal seed))
@@ -304,6 +354,5 @@ numbers_spell steps seed words few small is = (
 pub churn_valid_is_read : (steps seed : ℕ) (result : Answer) → steps ≤ 1000000 → seed < 2 ^ 64
     → IsRead (churn (decimal steps) (decimal seed)) result
     → IsErrOf result Usage → ⊥
-churn_valid_is_read steps seed (Ok request) few small read usage = let bad : Ok request ≡ Err Usage = usage in cc
-churn_valid_is_read steps seed (Err OutOfMemory) few small read usage = let bad : Err OutOfMemory ≡ Err Usage = usage in cc
-churn_valid_is_read steps seed (Err Usage) few small read usage = bad_churn_valid steps seed few small read
+churn_valid_is_read steps seed result few small read usage =
+    bad_churn_valid steps seed few small (usage_is_read (churn (decimal steps) (decimal seed)) result read usage)

@@ -1,9 +1,11 @@
 pub mod Churn
+pub mod Collect
 pub mod CommandLine
 pub mod Commands
 pub mod Create
 pub mod Met
 pub mod Mistake
+pub mod Mount
 pub mod Options
 pub mod Program
 pub mod Serve

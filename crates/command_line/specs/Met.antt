@@ -5,11 +5,12 @@ use Rattle.std.specs.Str.{bytes_eq}
 use Rattle.clap.specs.Walk.{Row, Text, first_of}
 use Rattle.command_line.specs.Churn.{AsksToChurn, HasBadNumber}
 use Rattle.command_line.specs.Create.{AsksToCreate, HasBadValue, create_options}
+use Rattle.command_line.specs.Mount.{AsksToMount, HasBadMountValue}
 use Rattle.command_line.specs.Options.{CommandOption, is_required, option_name}
 use Rattle.command_line.specs.Serve.{AsksToServe, HasBadServeValue, serve_options}
 use Rattle.command_line.specs.Values.{IsBetween}
 use Rattle.command_line.specs.declared.request.Request.{Request}
-use Rattle.command_line.specs.declared.request.Request.TheVariants.{Replay, Create, Serve, Churn}
+use Rattle.command_line.specs.declared.request.Request.TheVariants.{Replay, Create, Serve, Collect, Churn}
 use Rattle.command_line.specs.declared.serve.Counts.{Counts}
 use Rattle.command_line.specs.declared.values.Files.{Files}
 
@@ -42,6 +43,10 @@ pub record NamesFiles (value : Text → Option Text) (files : Files) : Type 0 wh
 abbrev pub LacksFile : (Text → Option Text) → Type 0
 LacksFile value = (value (codes "store") ≡ None) ⊎ (value (codes "cache") ≡ None)
 
+-- the values name nothing to mount
+abbrev pub LacksMountValue : (Text → Option Text) → Type 0
+LacksMountValue value = HasBadMountValue value ⊎ (LacksFile value ⊎ (value (codes "volume") ≡ None))
+
 -- the values give these counts of `serve`
 pub record GivesCounts (value : Text → Option Text) (counts : Counts) : Type 0 where
   pub workers : IsBetween value (codes "workers") 0 8 counts.workers
@@ -52,6 +57,7 @@ abbrev pub IsMadeOf : Option (Text × List Row) → Request → Type 0
 IsMadeOf met Replay = (rows : List Row) × IsMet met (codes "replay") rows
 IsMadeOf met (Create request) = (rows : List Row) × IsMet met (codes "create") rows × AsksToCreate (value_among rows) request
 IsMadeOf met (Serve request) = (rows : List Row) × IsMet met (codes "serve") rows × AsksToServe (value_among rows) request
+IsMadeOf met (Collect request) = (rows : List Row) × IsMet met (codes "collect") rows × AsksToMount (value_among rows) request
 IsMadeOf met (Churn request) = (rows : List Row) × IsMet met (codes "churn") rows × AsksToChurn (value_among rows) request
 
 -- the command makes no request
@@ -59,4 +65,5 @@ pub record MakesNone (met : Option (Text × List Row)) : Type 0 where
   pub replay : (rows : List Row) → IsMet met (codes "replay") rows → ⊥
   pub create : (rows : List Row) → IsMet met (codes "create") rows → LacksValue (value_among rows)
   pub serve : (rows : List Row) → IsMet met (codes "serve") rows → LacksServeValue (value_among rows)
+  pub collect : (rows : List Row) → IsMet met (codes "collect") rows → LacksMountValue (value_among rows)
   pub churn : (rows : List Row) → IsMet met (codes "churn") rows → HasBadNumber (value_among rows)

@@ -9,8 +9,9 @@ use Rattle.clap.specs.declared.builder.command.Command.{Command}
 use Rattle.clap.specs.declared.builder.command.Command.TheViews.{out-Command}
 use Rattle.uuid.specs.Text.{parsed}
 use Rattle.command_line.specs.Churn.{churn_value}
-use Rattle.command_line.specs.CommandLine.{HasBadOptions, IsAskedBy, IsFaulty, Line, Spells, churn, commands, create, replay}
-use Rattle.command_line.specs.CommandLine.{serve}
+use Rattle.command_line.specs.Collect.{collect_options, collect_value}
+use Rattle.command_line.specs.CommandLine.{HasBadOptions, IsAskedBy, IsFaulty, Line, Spells, churn, collect, commands, create}
+use Rattle.command_line.specs.CommandLine.{replay, serve}
 use Rattle.command_line.specs.Create.{create_options, value_in}
 use Rattle.command_line.specs.Met.{IsMet, value_among}
 use Rattle.command_line.specs.Options.{CommandOption, flag, is_required, option_name, rule_for, takes_value}
@@ -86,7 +87,8 @@ IsTrueOfOptions name command words _ = ⊥
 abbrev pub options_of : Text → List CommandOption
 options_of command =
     flag (codes "help") ∷ (if bytes_eq command (codes "create") then create_options
-    else (if bytes_eq command (codes "serve") then serve_options else []))
+    else (if bytes_eq command (codes "serve") then serve_options
+    else (if bytes_eq command (codes "collect") then collect_options else [])))
 
 -- ---- what is said of the values of options
 
@@ -107,6 +109,7 @@ abbrev pub line_value : Line → Text → Option Text
 line_value replay name = None
 line_value (create options) name = value_in options name
 line_value (serve options) name = serve_value options name
+line_value (collect options) name = collect_value options name
 line_value (churn steps seed) name = churn_value steps seed name
 
 -- ---- what is said
@@ -120,12 +123,10 @@ pub data IsTrueOf (words : List Text) (mistake : Mistake) : Type 0 where
 
 -- ---- for this crate's own clauses
 
--- the mistake is true of the values that clap met
+-- the mistake is true of the values that clap met, whatever the command is
 abbrev pub IsTrueOfMet : Option (Text × List Row) → Mistake → Type 0
 IsTrueOfMet met mistake =
-    ((rows : List Row) × IsMet met (codes "create") rows × IsTrueOfValues (value_among rows) mistake)
-    ⊎ (((rows : List Row) × IsMet met (codes "serve") rows × IsTrueOfValues (value_among rows) mistake)
-    ⊎ ((rows : List Row) × IsMet met (codes "churn") rows × IsTrueOfValues (value_among rows) mistake))
+    (command : Text) × (rows : List Row) × IsMet met command rows × IsTrueOfValues (value_among rows) mistake
 
 -- a rule of clap is that of an option: it has a name before its value
 abbrev pub is_named : Rule → Bool

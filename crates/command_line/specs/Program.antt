@@ -2,6 +2,7 @@
 use Rattle.std.specs.Prelude.{[], codes, map, true}
 use Rattle.clap.specs.Simple.{App, Shape, new_shape, with_subcommand}
 use Rattle.command_line.specs.Churn.{churn_rules}
+use Rattle.command_line.specs.Collect.{collect_options}
 use Rattle.command_line.specs.Create.{create_options}
 use Rattle.command_line.specs.Options.{rule_for}
 use Rattle.command_line.specs.Serve.{serve_options}
@@ -15,6 +16,9 @@ create = record (new_shape (codes "create")) { rules = map rule_for create_optio
 
 abbrev pub serve : Shape
 serve = record (new_shape (codes "serve")) { rules = map rule_for serve_options }
+
+abbrev pub collect : Shape
+collect = record (new_shape (codes "collect")) { rules = map rule_for collect_options }
 
 -- `churn` has no options, but two words that have their places
 abbrev pub churn : Shape
@@ -35,4 +39,6 @@ bare = record {
 
 -- the program with all its commands
 unfoldable pub lsvdctl : App
-lsvdctl = with_subcommand (with_subcommand (with_subcommand (with_subcommand bare replay) create) serve) churn
+lsvdctl =
+    with_subcommand (with_subcommand (with_subcommand (with_subcommand (with_subcommand bare replay) create) serve) collect)
+    churn

@@ -1,10 +1,10 @@
 -- Contract: what the options of `serve` ask for.
-use Rattle.std.specs.Prelude.{◌≡◌, ◌≢◌, ◌-◌, ◌^◌, ℕ, List, [], ◌∷◌, Option, Some, None, codes, option_map}
+use Rattle.std.specs.Prelude.{◌≡◌, ◌-◌, ◌^◌, ℕ, List, [], ◌∷◌, Option, Some, None, codes}
 use Rattle.std.specs.List.{All}
 use Rattle.clap.specs.Walk.{Text}
-use Rattle.uuid.specs.Text.{parsed}
+use Rattle.command_line.specs.Mount.{AsksToMount, HasBadMountValue}
 use Rattle.command_line.specs.Options.{AreOptionsOf, CommandOption, Given, IsPlainOption, flag, optional, required, value_of}
-use Rattle.command_line.specs.Values.{IsBetween, IsNoUuid, LacksBetween, MayBeBetween, is_set}
+use Rattle.command_line.specs.Values.{IsBetween, LacksBetween, MayBeBetween}
 use Rattle.command_line.specs.declared.serve.ServeRequest.{ServeRequest}
 
 -- the options of `serve`
@@ -22,20 +22,15 @@ serve_value options name = value_of serve_options options name
 
 -- they ask for this
 pub record AsksToServe (value : Text → Option Text) (request : ServeRequest) : Type 0 where
-  pub store : value (codes "store") ≡ Some request.store.now
-  pub volume : option_map parsed (value (codes "volume")) ≡ Some (Some request.volume)
-  pub cache : value (codes "cache") ≡ Some request.cache.now
+  pub mount : AsksToMount value request.mount
   pub socket : value (codes "socket") ≡ Some request.socket.now
-  pub is_lost : request.is_lost ≡ is_set value (codes "lost")
-  pub log : MayBeBetween value (codes "log") 0 (2 ^ 31) request.log
   pub workers : IsBetween value (codes "workers") 0 8 request.workers
   pub lanes : IsBetween value (codes "lanes") 1 16 request.lanes
   pub sessions : IsBetween value (codes "sessions") 1 (2 ^ 32 - 1) request.sessions
 
 -- why they ask for nothing
 pub data HasBadServeValue (value : Text → Option Text) : Type 0 where
-  volume : IsNoUuid value (codes "volume") → HasBadServeValue value
-  log : value (codes "log") ≢ None → LacksBetween value (codes "log") 0 (2 ^ 31) → HasBadServeValue value
+  mount : HasBadMountValue value → HasBadServeValue value
   workers : LacksBetween value (codes "workers") 0 8 → HasBadServeValue value
   lanes : LacksBetween value (codes "lanes") 1 16 → HasBadServeValue value
   sessions : LacksBetween value (codes "sessions") 1 (2 ^ 32 - 1) → HasBadServeValue value

@@ -18,6 +18,7 @@ pub(crate) fn bad_value_in<'a>(matches: &ArgMatches<'a>) -> Option<Mistake<'a>>
     match command {
         "create" => bad_value_to_create(values),
         "serve" => bad_value_to_serve(values),
+        "collect" => bad_value_to_mount(values),
         "churn" => bad_word_to_churn(values),
         _ => None,
     }
@@ -45,11 +46,10 @@ fn bad_value_to_create<'a>(values: &ArgMatches<'a>) -> Option<Mistake<'a>>
 fn bad_value_to_serve<'a>(values: &ArgMatches<'a>) -> Option<Mistake<'a>>
     ensures { IfSome result (IsTrueOfValues (value_among (rows_of (found_of values.now)))) }
 {
-    if let Some(mistake) = bad_uuid(values, "volume") {
+    if let Some(mistake) = bad_value_to_mount(values) {
         return Some(mistake);
     }
     for (option, least, most) in [
-        ("log", 0, Geometry::MAX_LOG),
         ("workers", 0, MAX_WORKERS),
         ("lanes", 1, MAX_LANES),
         ("sessions", 1, MAX_SESSIONS),
@@ -59,6 +59,15 @@ fn bad_value_to_serve<'a>(values: &ArgMatches<'a>) -> Option<Mistake<'a>>
         }
     }
     None
+}
+
+fn bad_value_to_mount<'a>(values: &ArgMatches<'a>) -> Option<Mistake<'a>>
+    ensures { IfSome result (IsTrueOfValues (value_among (rows_of (found_of values.now)))) }
+{
+    if let Some(mistake) = bad_uuid(values, "volume") {
+        return Some(mistake);
+    }
+    bad_number(values, "log", 0, Geometry::MAX_LOG)
 }
 
 fn bad_word_to_churn<'a>(values: &ArgMatches<'a>) -> Option<Mistake<'a>>

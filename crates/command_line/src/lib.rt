@@ -8,11 +8,13 @@
 
 mod bad_values;
 mod churn;
+mod collect;
 mod create;
 mod faults;
 mod help;
 mod laws;
 mod mistake;
+mod mount;
 mod number;
 mod options;
 mod program;
@@ -25,5 +27,6 @@ pub use create::CreateRequest;
 pub use help::help_of;
 pub use laws::{a_command_line_spells_a_request, the_help_options_ask_for_help};
 pub use mistake::{Mistake, mistake_of};
+pub use mount::MountRequest;
 pub use request::{CommandLineError, Request, request_of};
 pub use serve::ServeRequest;

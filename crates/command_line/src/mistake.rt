@@ -85,12 +85,12 @@ pub enum Mistake<'a> {
 impl fmt::Display for Mistake<'_> {
     fn fmt<W: fmt::Write>(&self, f: &mut fmt::Formatter<W>) -> fmt::Result {
         match self {
-            Mistake::NoCommand => {
-                f.write_str("no command is given; the commands are replay, create, serve and churn")
-            }
+            Mistake::NoCommand => f.write_str(
+                "no command is given; the commands are replay, create, serve, collect and churn",
+            ),
             Mistake::UnknownCommand { word } => write!(
                 f,
-                "there is no command {word:?}; the commands are replay, create, serve and churn"
+                "there is no command {word:?}; the commands are replay, create, serve, collect and churn"
             ),
             Mistake::UnknownOption { command, option } => {
                 write!(f, "there is no option {option:?} of {command}")

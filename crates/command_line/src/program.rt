@@ -5,6 +5,7 @@ ghost use Rattle.command_line.specs.Program.{bare, lsvdctl, replay};
 ghost use Rattle.command_line.specs.CommandLine.{faults_of};
 
 use crate::churn::churn_command;
+use crate::collect::collect_command;
 use crate::create::create_command;
 use crate::serve::serve_command;
 use clap::{ArgMatches, Command, Error};
@@ -40,6 +41,11 @@ pub(crate) fn program<'a>(alloc: Global) -> Result<Command<'a>, AllocError>
         return Err(AllocError);
     };
     let program = program.subcommand(serve)?;
+    let Ok(collect) = collect_command(alloc) else {
+        drop(program);
+        return Err(AllocError);
+    };
+    let program = program.subcommand(collect)?;
     let Ok(churn) = churn_command(alloc) else {
         drop(program);
         return Err(AllocError);

@@ -4,6 +4,7 @@ ghost use Rattle.std.specs.List.{All, flat_map};
 ghost use Rattle.clap.specs.Words.{kind_of, subcommand_rows_of};
 ghost use Rattle.clap.specs.declared.error.kind.ErrorKind.TheVariants as kinds;
 ghost use Rattle.lsvd_base.specs.declared.geometry.Geometry.{Geometry};
+ghost use Rattle.command_line.specs.Collect.{AreValidToCollect, collect_value};
 ghost use Rattle.command_line.specs.CommandLine.{HasBadOptions, IsAskedBy, IsFaulty, IsRead, IsRefused, Line};
 ghost use Rattle.command_line.specs.CommandLine.{Spells, commands};
 ghost use Rattle.command_line.specs.Create.{AreValid, HasBadUuid, value_in};
@@ -14,6 +15,7 @@ ghost use Rattle.command_line.specs.Values.{IsNoUuid};
 
 use crate::churn::{ChurnRequest, churn_in};
 use crate::create::{CreateRequest, create_in};
+use crate::mount::{MountRequest, mount_in};
 use crate::program::matches_of;
 use crate::serve::{ServeRequest, serve_in};
 use clap::ArgMatches;
@@ -30,6 +32,8 @@ pub enum Request<'a> {
     Create(CreateRequest<'a>),
     /// Serve a volume.
     Serve(ServeRequest<'a>),
+    /// Collect a volume.
+    Collect(MountRequest<'a>),
     /// Run a script that is generated.
     Churn(ChurnRequest),
 }
@@ -72,10 +76,13 @@ pub fn request_of<'a>(alloc: Global, words: &'a [String]) -> Result<Request<'a>,
         → IsErrOf result CommandLineError.Usage → HasBadUuid (value_in options)
         ⊎ (sizes.log < 2 * (sizes.max_write + 1)) }
 
-    // And plain options of `serve` for a text that is no uuid alone.
+    // And plain options of `serve` and of `collect` for a text that is no uuid alone.
     ensures serve_valid { (options : List Given) → AreValidToServe options
         → map string_bytes words.now ≡ codes "serve" ∷ flat_map option_words options
         → IsErrOf result CommandLineError.Usage → IsNoUuid (serve_value options) (codes "volume") }
+    ensures collect_valid { (options : List Given) → AreValidToCollect options
+        → map string_bytes words.now ≡ codes "collect" ∷ flat_map option_words options
+        → IsErrOf result CommandLineError.Usage → IsNoUuid (collect_value options) (codes "volume") }
 
     // Two numbers in their limits, in decimal digits, are not refused of `churn`.
     ensures churn_valid { (steps seed : ℕ) → steps ≤ 1000000 → seed < 2 ^ 64
@@ -106,6 +113,10 @@ pub(crate) fn request_in<'a>(matches: &ArgMatches<'a>) -> Option<Request<'a>>
         },
         "serve" => match serve_in(values) {
             Some(request) => Some(Request::Serve(request)),
+            None => None,
+        },
+        "collect" => match mount_in(values) {
+            Some(request) => Some(Request::Collect(request)),
             None => None,
         },
         "churn" => match churn_in(values) {

@@ -5,12 +5,11 @@ ghost use Rattle.command_line.specs.Met.{GivesCounts, LacksServeValue, value_amo
 ghost use Rattle.command_line.specs.Program.{serve};
 ghost use Rattle.command_line.specs.Serve.{AsksToServe, HasBadServeValue};
 
+use crate::mount::{CACHE, LOG, LOST, MountRequest, STORE, VOLUME, mount_in};
 use crate::options::{OptionText, with_options};
-use crate::values::{Files, files_in, is_set, number_between, number_if_given, uuid_in};
+use crate::values::number_between;
 use clap::{ArgMatches, Command};
-use lsvd_base::Geometry;
 use std::alloc::{AllocError, Global};
-use uuid::Uuid;
 
 // The most workers.
 pub(crate) const MAX_WORKERS: u64 = 8;
@@ -21,23 +20,13 @@ pub(crate) const MAX_LANES: u64 = 16;
 // The most sessions.
 pub(crate) const MAX_SESSIONS: u64 = 0xFFFF_FFFF;
 
-/// What `serve` asks for: a volume of a store, with its cache device, served to clients of NBD that connect
-/// to a socket.
+/// What `serve` asks for: a volume that is mounted, and served to clients of NBD that connect to a socket.
 #[derive(Clone, Copy, Debug, PartialEq, Eq)]
 pub struct ServeRequest<'a> {
-    /// The directory of the store.
-    pub store: &'a str,
-    /// The volume's uuid.
-    pub volume: Uuid,
-    /// The file of the cache device.
-    pub cache: &'a str,
+    /// The volume, with its cache device.
+    pub mount: MountRequest<'a>,
     /// The path of the socket.
     pub socket: &'a str,
-    /// Whether the cache device is lost: the volume is then what the store has.
-    pub is_lost: bool,
-    /// The sectors of the log of a cache device that is made anew: 0 to 2^31. None is for the file that there
-    /// is. It has an effect only where the cache device is lost.
-    pub log: Option<u64>,
     /// The threads that put objects into the store beside the lanes: 0 to 8.
     pub workers: u64,
     /// The lanes, each of which serves one session after another: 1 to 16.
@@ -48,36 +37,16 @@ pub struct ServeRequest<'a> {
 
 // The options of `serve`.
 const OPTIONS: &[OptionText] = &[
-    OptionText::Required {
-        name: "store",
-        value: "DIRECTORY",
-        help: "Directory of the store",
-    },
-    OptionText::Required {
-        name: "volume",
-        value: "UUID",
-        help: "UUID of the volume",
-    },
-    OptionText::Required {
-        name: "cache",
-        value: "FILE",
-        help: "File of the cache device",
-    },
+    STORE,
+    VOLUME,
+    CACHE,
     OptionText::Required {
         name: "socket",
         value: "PATH",
         help: "Path of the socket that clients connect to",
     },
-    OptionText::Flag {
-        name: "lost",
-        help: "The cache device is lost: serve what the store has",
-    },
-    OptionText::Optional {
-        name: "log",
-        value: "SECTORS",
-        help: "With --lost, sectors of the log on a cache device made anew: 0 to 2147483648 \
-               [default: as it is]",
-    },
+    LOST,
+    LOG,
     OptionText::Defaulted {
         name: "workers",
         value: "THREADS",
@@ -114,19 +83,17 @@ pub(crate) fn serve_in<'a>(values: &ArgMatches<'a>) -> Option<ServeRequest<'a>>
     ensures found { IfSome result (AsksToServe (value_among (rows_of (found_of values.now)))) }
     ensures none { IfNone result (LacksServeValue (value_among (rows_of (found_of values.now)))) }
 {
-    let Files { store, cache } = files_in(values)?;
+    let Some(mount) = mount_in(values) else {
+        return None;
+    };
     let Counts {
         workers,
         lanes,
         sessions,
     } = counts_in(values)?;
     Some(ServeRequest {
-        store,
-        volume: uuid_in(values, "volume")??,
-        cache,
+        mount,
         socket: values.get_str("socket")?,
-        is_lost: is_set(values, "lost"),
-        log: number_if_given(values, "log", 0, Geometry::MAX_LOG)?,
         workers,
         lanes,
         sessions,

@@ -2,7 +2,7 @@ use Rattle.std.proofs.Common.{◌≡◌, ◌∙◌, ap₂}
 use Rattle.std.proofs.lemmas.Result.{IfOk-weaker}
 use Rattle.clap.specs.Words.{app_of}
 use Rattle.clap.specs.Simple.{with_subcommand}
-use Rattle.command_line.specs.Program.{bare, create, lsvdctl, replay, serve}
+use Rattle.command_line.specs.Program.{bare, collect, create, lsvdctl, replay, serve}
 use Rattle.command_line.proofs.program.program.Goals as goal
 
 pub returns : goal.returns
@@ -17,5 +17,9 @@ returns c =
     let three : app_of c.in_ok-program-3.program ≡ with_subcommand (with_subcommand (with_subcommand bare replay) create) serve =
     c.in_ok-program-3.ensures.shape c.in-Ok-serve_command.ensures.local
     ∙ ap₂ with_subcommand two c.in-Ok-serve_command.ensures.shape in
-    IfOk-weaker c.subcommand-4.result _ _ (λ program added. added.shape c.in-Ok-churn_command.ensures.local
-    ∙ ap₂ with_subcommand three c.in-Ok-churn_command.ensures.shape) c.subcommand-4.ensures
+    let four : app_of c.in_ok-program-4.program
+    ≡ with_subcommand (with_subcommand (with_subcommand (with_subcommand bare replay) create) serve) collect =
+    c.in_ok-program-4.ensures.shape c.in-Ok-collect_command.ensures.local
+    ∙ ap₂ with_subcommand three c.in-Ok-collect_command.ensures.shape in
+    IfOk-weaker c.subcommand-5.result _ _ (λ program added. added.shape c.in-Ok-churn_command.ensures.local
+    ∙ ap₂ with_subcommand four c.in-Ok-churn_command.ensures.shape) c.subcommand-5.ensures
