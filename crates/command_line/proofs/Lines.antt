@@ -19,7 +19,8 @@ use Rattle.clap.specs.declared.error.kind.ErrorKind.TheVariants.{MissingSubcomma
 use Rattle.clap.specs.Faults.{check_fault, defaults_fault, entered_fault, level_fault, settle_fault, walk_fault}
 use Rattle.clap.proofs.OnLiterals.{clap_on_literals}
 use Rattle.command_line.specs.CommandLine.{AsksForHelp, IsHelpOption, IsVersionOption, Line, Spells, commands, create, faults_of}
-use Rattle.command_line.specs.CommandLine.{churn, collect, replay, serve}
+use Rattle.command_line.specs.CommandLine.{check, churn, collect, replay, serve}
+use Rattle.command_line.specs.Check.{check_options}
 use Rattle.command_line.specs.Collect.{collect_options}
 use Rattle.command_line.specs.Create.{create_options}
 use Rattle.command_line.specs.Mistake.{line_value}
@@ -177,6 +178,17 @@ has_collect = record {
   asks = λ option rest is. elim is [ inl short ↦ rw short (inl refl) | inr long ↦ rw long (inl refl) ];
 }
 
+has_check : Has (codes "check") check_options
+unfolding faults_of lsvdctl walk_fault walked defaults_fault clap_on_literals
+has_check = record {
+  names = has_names check_options refl;
+  stops = λ words. top_stopped (codes "check") words;
+  enters = λ words. refl;
+  quiet = λ words quiet. rw quiet refl;
+  meets = λ words. ap (entered app) (stopped_at (codes "check") words);
+  asks = λ option rest is. elim is [ inl short ↦ rw short (inl refl) | inr long ↦ rw long (inl refl) ];
+}
+
 module _ (command : Text) (known : Known) (has : Has command known) where
   after_holds : (P : Kinds → Type 0) → IsByFirst P → (words : List Text) → P (faults_after command known words)
       → P (faults_of (command ∷ words))
@@ -233,10 +245,11 @@ first_word word rest none other =
     (first_refused app.top (names_of app) word top_has none other)
 
 no_command : (word : Text) → bytes_eq (codes "replay") word ≡ false → bytes_eq (codes "create") word ≡ false
-    → bytes_eq (codes "serve") word ≡ false → bytes_eq (codes "collect") word ≡ false → bytes_eq (codes "churn") word ≡ false
+    → bytes_eq (codes "serve") word ≡ false → bytes_eq (codes "collect") word ≡ false → bytes_eq (codes "check") word ≡ false
+    → bytes_eq (codes "churn") word ≡ false
     → subcommand_met (names_of app) idle word ≡ None
 unfolding lsvdctl
-no_command word replays creates serves collects churns = rw (replays, creates, serves, collects, churns) refl
+no_command word replays creates serves collects checks churns = rw (replays, creates, serves, collects, checks, churns) refl
 
 top_first : (word : Text) (rest : List Text) → subcommand_met (names_of app) idle word ≡ None → bytes_eq word (codes "--") ≡ false
     → IsRefusal (faults_of (word ∷ rest))
@@ -298,6 +311,12 @@ collect_line words = elim (given_or_refused (codes "collect") collect_options ha
   | inr refused ↦ inr refused
 ]
 
+check_line : (words : List Text) → IsLine (codes "check" ∷ words)
+check_line words = elim (given_or_refused (codes "check") check_options has_check words) [
+  | inl given ↦ inl (check given.0, (given.1, given.2))
+  | inr refused ↦ inr refused
+]
+
 churn_line : (words : List Text) → IsLine (codes "churn" ∷ words)
 churn_line words = elim (refused_or_numbers words) [
   | inl refused ↦ inr (after_churn_holds IsRefusal refusal_first words refused)
@@ -315,23 +334,29 @@ line_named : (command word : Text) (rest : List Text) → IsLine (command ∷ re
     → IsLine (word ∷ rest)
 line_named command word rest line is = subst (λ (w : Text). IsLine (w ∷ rest)) ((bytes_eq-Decides command word).0 is) line
 
-first_line : (word : Text) (rest : List Text) (replays creates serves collects churns : Bool)
+first_line : (word : Text) (rest : List Text) (replays creates serves collects checks churns : Bool)
     → bytes_eq (codes "replay") word ≡ replays → bytes_eq (codes "create") word ≡ creates → bytes_eq (codes "serve") word ≡ serves
-    → bytes_eq (codes "collect") word ≡ collects → bytes_eq (codes "churn") word ≡ churns → IsLine (word ∷ rest)
-first_line word rest true creates serves collects churns e f g h k =
+    → bytes_eq (codes "collect") word ≡ collects → bytes_eq (codes "check") word ≡ checks → bytes_eq (codes "churn") word ≡ churns
+    → IsLine (word ∷ rest)
+first_line word rest true creates serves collects checks churns e f g h j k =
     line_named (codes "replay") word rest (replay_line rest (after_replay rest)) e
-first_line word rest false true serves collects churns e f g h k = line_named (codes "create") word rest (create_line rest) f
-first_line word rest false false true collects churns e f g h k = line_named (codes "serve") word rest (serve_line rest) g
-first_line word rest false false false true churns e f g h k = line_named (codes "collect") word rest (collect_line rest) h
-first_line word rest false false false false true e f g h k = line_named (codes "churn") word rest (churn_line rest) k
-first_line word rest false false false false false e f g h k =
-    inr (other_line word rest (bytes_eq word (codes "--")) (no_command word e f g h k) refl)
+first_line word rest false true serves collects checks churns e f g h j k =
+    line_named (codes "create") word rest (create_line rest) f
+first_line word rest false false true collects checks churns e f g h j k =
+    line_named (codes "serve") word rest (serve_line rest) g
+first_line word rest false false false true checks churns e f g h j k =
+    line_named (codes "collect") word rest (collect_line rest) h
+first_line word rest false false false false true churns e f g h j k = line_named (codes "check") word rest (check_line rest) j
+first_line word rest false false false false false true e f g h j k = line_named (codes "churn") word rest (churn_line rest) k
+first_line word rest false false false false false false e f g h j k =
+    inr (other_line word rest (bytes_eq word (codes "--")) (no_command word e f g h j k) refl)
 
 pub each_line : (words : List Text) → IsLine words
 each_line [] = inr nothing_refused
 each_line (word ∷ rest) =
     first_line word rest (bytes_eq (codes "replay") word) (bytes_eq (codes "create") word) (bytes_eq (codes "serve") word)
-    (bytes_eq (codes "collect") word) (bytes_eq (codes "churn") word) refl refl refl refl refl
+    (bytes_eq (codes "collect") word) (bytes_eq (codes "check") word) (bytes_eq (codes "churn") word)
+    refl refl refl refl refl refl
 
 -- the words after a command that may be ended
 after_command : (command : Text) (options words : List Text) → MayEnd (command ∷ options) words
@@ -357,6 +382,8 @@ spelled_is_taken words (serve options) (are, end) =
     given_is_quiet (codes "serve") serve_options has_serve words (options, are, end)
 spelled_is_taken words (collect options) (are, end) =
     given_is_quiet (codes "collect") collect_options has_collect words (options, are, end)
+spelled_is_taken words (check options) (are, end) =
+    given_is_quiet (codes "check") check_options has_check words (options, are, end)
 spelled_is_taken words (churn steps seed) (rest, is, are) =
     rw is (churn_stops rest ∙ churn_quiet rest (numbers_are_taken steps seed rest are))
 
@@ -378,6 +405,7 @@ command_of replay = codes "replay"
 command_of (create options) = codes "create"
 command_of (serve options) = codes "serve"
 command_of (collect options) = codes "collect"
+command_of (check options) = codes "check"
 command_of (churn steps seed) = codes "churn"
 
 -- the command and the values that clap finds, where the words spell a line
@@ -415,6 +443,7 @@ spelled_is_found words (create options) (are, end) = given_finds (codes "create"
 spelled_is_found words (serve options) (are, end) = given_finds (codes "serve") serve_options has_serve words options are end
 spelled_is_found words (collect options) (are, end) =
     given_finds (codes "collect") collect_options has_collect words options are end
+spelled_is_found words (check options) (are, end) = given_finds (codes "check") check_options has_check words options are end
 spelled_is_found words (churn steps seed) (rest, is, are) = (
   rows_after places.rules [] rest,
   rw is (churn_meets rest),
@@ -453,6 +482,7 @@ first_of_line first rest replay end = first_is (codes "replay") [] first rest en
 first_of_line first rest (create options) (are, end) = first_is (codes "create") (flat_map option_words options) first rest end
 first_of_line first rest (serve options) (are, end) = first_is (codes "serve") (flat_map option_words options) first rest end
 first_of_line first rest (collect options) (are, end) = first_is (codes "collect") (flat_map option_words options) first rest end
+first_of_line first rest (check options) (are, end) = first_is (codes "check") (flat_map option_words options) first rest end
 first_of_line first rest (churn steps seed) (more, is, are) = cc
 
 pub spells_a_command : (first : Text) (rest : List Text) (line : Line) → Spells (first ∷ rest) line
@@ -464,7 +494,8 @@ spells_a_command first rest line spelled others = go line (first_of_line first r
     go (create options) is = others 1 [] (lit< tt) (sym is)
     go (serve options) is = others 2 [] (lit< tt) (sym is)
     go (collect options) is = others 3 [] (lit< tt) (sym is)
-    go (churn steps seed) is = others 4 [] (lit< tt) (sym is)
+    go (check options) is = others 4 [] (lit< tt) (sym is)
+    go (churn steps seed) is = others 5 [] (lit< tt) (sym is)
 
 pub nothing_is_spelled : (line : Line) → Spells [] line → ⊥
 nothing_is_spelled replay (inl is) = cc
@@ -475,6 +506,8 @@ nothing_is_spelled (serve options) (are, inl is) = cc
 nothing_is_spelled (serve options) (are, inr is) = cc
 nothing_is_spelled (collect options) (are, inl is) = cc
 nothing_is_spelled (collect options) (are, inr is) = cc
+nothing_is_spelled (check options) (are, inl is) = cc
+nothing_is_spelled (check options) (are, inr is) = cc
 nothing_is_spelled (churn steps seed) (rest, is, are) = cc
 
 -- an error of words that ask for help is the answer to it
@@ -538,14 +571,15 @@ pub second_asks : (option : Text) (rest : List Text) → IsHelpOption option
     → All (λ command. AsksForHelp (command ∷ option ∷ rest)) commands
 second_asks option rest is =
     let Asks : Text → Type 0 = λ command. AsksForHelp (command ∷ option ∷ rest) in
-    All-cons Asks (codes "replay") (codes "create" ∷ codes "serve" ∷ codes "collect" ∷ codes "churn" ∷ [])
+    All-cons Asks (codes "replay") (codes "create" ∷ codes "serve" ∷ codes "collect" ∷ codes "check" ∷ codes "churn" ∷ [])
     (inl (after_replay_holds (IsAmong DisplayHelp) (among_first DisplayHelp) (option ∷ rest) (replay_asks option rest is)))
-    (All-cons Asks (codes "create") (codes "serve" ∷ codes "collect" ∷ codes "churn" ∷ [])
+    (All-cons Asks (codes "create") (codes "serve" ∷ codes "collect" ∷ codes "check" ∷ codes "churn" ∷ [])
     (given_asks (codes "create") create_options has_create option rest is)
-    (All-cons Asks (codes "serve") (codes "collect" ∷ codes "churn" ∷ [])
+    (All-cons Asks (codes "serve") (codes "collect" ∷ codes "check" ∷ codes "churn" ∷ [])
     (given_asks (codes "serve") serve_options has_serve option rest is)
-    (All-cons Asks (codes "collect") (codes "churn" ∷ [])
+    (All-cons Asks (codes "collect") (codes "check" ∷ codes "churn" ∷ [])
     (given_asks (codes "collect") collect_options has_collect option rest is)
+    (All-cons Asks (codes "check") (codes "churn" ∷ []) (given_asks (codes "check") check_options has_check option rest is)
     (All-cons Asks (codes "churn") []
     (inl (after_churn_holds (IsAmong DisplayHelp) (among_first DisplayHelp) (option ∷ rest) (churn_asks option rest is)))
-    (All-nil Asks)))))
+    (All-nil Asks))))))

@@ -26,8 +26,9 @@ use Rattle.clap.specs.declared.builder.command.Command.TheViews.{out-Command}
 use Rattle.clap.specs.declared.error.Error.{Error}
 use Rattle.clap.specs.declared.error.kind.ErrorKind.{ErrorKind}
 use Rattle.clap.specs.declared.error.kind.ErrorKind.TheVariants.{OutOfMemory}
-use Rattle.command_line.specs.CommandLine.{IsFaulty, Line, Spells, commands, faults_of}
+use Rattle.command_line.specs.Check.{check_options}
 use Rattle.command_line.specs.Collect.{collect_options}
+use Rattle.command_line.specs.CommandLine.{IsFaulty, Line, Spells, commands, faults_of}
 use Rattle.command_line.specs.Create.{create_options}
 use Rattle.command_line.specs.Mistake.{IsGivenOption, IsTrueOf, IsTrueOfCommand, IsTrueOfMet, IsTrueOfOptions, IsTrueOfValues}
 use Rattle.command_line.specs.Mistake.{by_options, by_values, by_words, before_value, gives, has_option, has_value}
@@ -95,7 +96,7 @@ abbrev Shapes : Type 0
 Shapes = List Shape
 
 abbrev shapes : Shapes
-shapes = program.replay ∷ program.create ∷ program.serve ∷ program.collect ∷ program.churn ∷ []
+shapes = program.replay ∷ program.create ∷ program.serve ∷ program.collect ∷ program.check ∷ program.churn ∷ []
 
 subs_are : lsvdctl.subs ≡ shapes
 unfolding lsvdctl
@@ -117,23 +118,26 @@ shape_is word name shape known same is command =
 found_among : (word : Text) (shape : Shape) → Some shape ≡ find (λ s. answers_to word (label_of s)) shapes → IsCommand word shape
 found_among word shape is =
     go (bytes_eq (codes "replay") word) (bytes_eq (codes "create") word) (bytes_eq (codes "serve") word)
-    (bytes_eq (codes "collect") word) (bytes_eq (codes "churn") word) refl refl refl refl refl
+    (bytes_eq (codes "collect") word) (bytes_eq (codes "check") word) (bytes_eq (codes "churn") word)
+    refl refl refl refl refl refl
   where
-    go : (first second third fourth last : Bool) → bytes_eq (codes "replay") word ≡ first
+    go : (first second third fourth fifth last : Bool) → bytes_eq (codes "replay") word ≡ first
         → bytes_eq (codes "create") word ≡ second → bytes_eq (codes "serve") word ≡ third
-        → bytes_eq (codes "collect") word ≡ fourth → bytes_eq (codes "churn") word ≡ last
-        → IsCommand word shape
-    go true second third fourth last e f g h k = shape_is word (codes "replay") shape program.replay e (rw e at is)
+        → bytes_eq (codes "collect") word ≡ fourth → bytes_eq (codes "check") word ≡ fifth
+        → bytes_eq (codes "churn") word ≡ last → IsCommand word shape
+    go true second third fourth fifth last e f g h j k = shape_is word (codes "replay") shape program.replay e (rw e at is)
         (record { name = refl; options = []; rules = refl; are = refl })
-    go false true third fourth last e f g h k = shape_is word (codes "create") shape program.create f (rw (e, f) at is)
+    go false true third fourth fifth last e f g h j k = shape_is word (codes "create") shape program.create f (rw (e, f) at is)
         (record { name = refl; options = create_options; rules = refl; are = refl })
-    go false false true fourth last e f g h k = shape_is word (codes "serve") shape program.serve g (rw (e, f, g) at is)
+    go false false true fourth fifth last e f g h j k = shape_is word (codes "serve") shape program.serve g (rw (e, f, g) at is)
         (record { name = refl; options = serve_options; rules = refl; are = refl })
-    go false false false true last e f g h k = shape_is word (codes "collect") shape program.collect h (rw (e, f, g, h) at is)
-        (record { name = refl; options = collect_options; rules = refl; are = refl })
-    go false false false false true e f g h k = shape_is word (codes "churn") shape program.churn k (rw (e, f, g, h, k) at is)
-        (record { name = refl; options = []; rules = refl; are = refl })
-    go false false false false false e f g h k = let bad : Some shape ≡ None = rw (e, f, g, h, k) at is in cc
+    go false false false true fifth last e f g h j k = shape_is word (codes "collect") shape program.collect h
+        (rw (e, f, g, h) at is) (record { name = refl; options = collect_options; rules = refl; are = refl })
+    go false false false false true last e f g h j k = shape_is word (codes "check") shape program.check j
+        (rw (e, f, g, h, j) at is) (record { name = refl; options = check_options; rules = refl; are = refl })
+    go false false false false false true e f g h j k = shape_is word (codes "churn") shape program.churn k
+        (rw (e, f, g, h, j, k) at is) (record { name = refl; options = []; rules = refl; are = refl })
+    go false false false false false false e f g h j k = let bad : Some shape ≡ None = rw (e, f, g, h, j, k) at is in cc
 
 abbrev IsNot : Text → Text → Type 0
 IsNot word command = command ≢ word
@@ -141,27 +145,32 @@ IsNot word command = command ≢ word
 none_among : (word : Text) → None ≡ find (λ s. answers_to word (label_of s)) shapes → All (λ command. command ≢ word) commands
 none_among word is =
     go (bytes_eq (codes "replay") word) (bytes_eq (codes "create") word) (bytes_eq (codes "serve") word)
-    (bytes_eq (codes "collect") word) (bytes_eq (codes "churn") word) refl refl refl refl refl
+    (bytes_eq (codes "collect") word) (bytes_eq (codes "check") word) (bytes_eq (codes "churn") word)
+    refl refl refl refl refl refl
   where
-    go : (first second third fourth last : Bool) → bytes_eq (codes "replay") word ≡ first
+    go : (first second third fourth fifth last : Bool) → bytes_eq (codes "replay") word ≡ first
         → bytes_eq (codes "create") word ≡ second → bytes_eq (codes "serve") word ≡ third
-        → bytes_eq (codes "collect") word ≡ fourth → bytes_eq (codes "churn") word ≡ last
-        → All (λ command. command ≢ word) commands
-    go true second third fourth last e f g h k = let bad : None ≡ Some program.replay = rw e at is in cc
-    go false true third fourth last e f g h k = let bad : None ≡ Some program.create = rw (e, f) at is in cc
-    go false false true fourth last e f g h k = let bad : None ≡ Some program.serve = rw (e, f, g) at is in cc
-    go false false false true last e f g h k = let bad : None ≡ Some program.collect = rw (e, f, g, h) at is in cc
-    go false false false false true e f g h k = let bad : None ≡ Some program.churn = rw (e, f, g, h, k) at is in cc
-    go false false false false false e f g h k =
-        All-cons (IsNot word) (codes "replay") (codes "create" ∷ codes "serve" ∷ codes "collect" ∷ codes "churn" ∷ [])
+        → bytes_eq (codes "collect") word ≡ fourth → bytes_eq (codes "check") word ≡ fifth
+        → bytes_eq (codes "churn") word ≡ last → All (λ command. command ≢ word) commands
+    go true second third fourth fifth last e f g h j k = let bad : None ≡ Some program.replay = rw e at is in cc
+    go false true third fourth fifth last e f g h j k = let bad : None ≡ Some program.create = rw (e, f) at is in cc
+    go false false true fourth fifth last e f g h j k = let bad : None ≡ Some program.serve = rw (e, f, g) at is in cc
+    go false false false true fifth last e f g h j k = let bad : None ≡ Some program.collect = rw (e, f, g, h) at is in cc
+    go false false false false true last e f g h j k = let bad : None ≡ Some program.check = rw (e, f, g, h, j) at is in cc
+    go false false false false false true e f g h j k = let bad : None ≡ Some program.churn = rw (e, f, g, h, j, k) at is in cc
+    go false false false false false false e f g h j k =
+        All-cons (IsNot word) (codes "replay")
+        (codes "create" ∷ codes "serve" ∷ codes "collect" ∷ codes "check" ∷ codes "churn" ∷ [])
         (differ (codes "replay") word e)
-        (All-cons (IsNot word) (codes "create") (codes "serve" ∷ codes "collect" ∷ codes "churn" ∷ [])
+        (All-cons (IsNot word) (codes "create") (codes "serve" ∷ codes "collect" ∷ codes "check" ∷ codes "churn" ∷ [])
         (differ (codes "create") word f)
-        (All-cons (IsNot word) (codes "serve") (codes "collect" ∷ codes "churn" ∷ [])
+        (All-cons (IsNot word) (codes "serve") (codes "collect" ∷ codes "check" ∷ codes "churn" ∷ [])
         (differ (codes "serve") word g)
-        (All-cons (IsNot word) (codes "collect") (codes "churn" ∷ [])
+        (All-cons (IsNot word) (codes "collect") (codes "check" ∷ codes "churn" ∷ [])
         (differ (codes "collect") word h)
-        (All-cons (IsNot word) (codes "churn") [] (differ (codes "churn") word k) (All-nil (IsNot word))))))
+        (All-cons (IsNot word) (codes "check") (codes "churn" ∷ [])
+        (differ (codes "check") word j)
+        (All-cons (IsNot word) (codes "churn") [] (differ (codes "churn") word k) (All-nil (IsNot word)))))))
 
 -- the same, by what clap found in the program
 pub command_found : (app : App) (word : Text) (shape : Shape) → app ≡ lsvdctl

@@ -20,11 +20,14 @@ use Rattle.lsvd_base.specs.Limits.{is_within_limits}
 use Rattle.lsvd_base.specs.declared.geometry.Geometry.{Geometry}
 use Rattle.command_line.specs.Churn.{AsksToChurn, HasBadNumber, churn_value}
 use Rattle.command_line.specs.Churn as churning
+use Rattle.command_line.specs.Check.{AsksToCheck, HasBadCheckValue, check_options, check_value}
 use Rattle.command_line.specs.Collect.{AreValidToCollect, collect_options, collect_value}
-use Rattle.command_line.specs.CommandLine.{HasBadOptions, IsAskedBy, IsRead, Line, Spells, churn, collect, create, replay, serve}
+use Rattle.command_line.specs.CommandLine.{HasBadOptions, IsAskedBy, IsRead, Line, Spells, check, churn, collect, create, replay}
+use Rattle.command_line.specs.CommandLine.{serve}
 use Rattle.command_line.specs.Create.{AreValid, AsksToCreate, HasBadUuid, HasBadValue, batch, create_options, limits, log}
 use Rattle.command_line.specs.Create.{max_write, sectors, uuid, value_in}
-use Rattle.command_line.specs.Met.{IsMadeOf, LacksMountValue, LacksRequired, LacksServeValue, LacksValue, MakesNone, value_among}
+use Rattle.command_line.specs.Met.{IsMadeOf, LacksCheckValue, LacksMountValue, LacksRequired, LacksServeValue, LacksValue}
+use Rattle.command_line.specs.Met.{MakesNone, value_among}
 use Rattle.command_line.specs.Mistake.{line_value}
 use Rattle.command_line.specs.Mount.{AsksToMount, HasBadMountValue}
 use Rattle.command_line.specs.Mount as mounting
@@ -36,7 +39,7 @@ use Rattle.command_line.specs.Values.{IsNoUuid, LacksBetween, MayBeBetween}
 use Rattle.command_line.specs.declared.request.CommandLineError.{CommandLineError}
 use Rattle.command_line.specs.declared.request.CommandLineError.TheVariants.{Usage, OutOfMemory}
 use Rattle.command_line.specs.declared.request.Request.{Request}
-use Rattle.command_line.specs.declared.request.Request.TheVariants.{Replay, Create, Serve, Collect, Churn}
+use Rattle.command_line.specs.declared.request.Request.TheVariants.{Replay, Create, Serve, Collect, Check, Churn}
 use Rattle.command_line.proofs.Lines.{IsFound, command_of}
 use Rattle.command_line.proofs.Numbers.{decimal_stands}
 use Rattle.command_line.proofs.Rows.{any_found}
@@ -128,6 +131,7 @@ creates_none met rows is lacks = record {
   create = λ others also. subst (λ (r : List Row). LacksValue (value_among r)) (ap rows_met (sym is ∙ also)) lacks;
   serve = λ others also. absurd (other_command (codes "create") (codes "serve") rows others met refl is also);
   collect = λ others also. absurd (other_command (codes "create") (codes "collect") rows others met refl is also);
+  check = λ others also. absurd (other_command (codes "create") (codes "check") rows others met refl is also);
   churn = λ others also. absurd (other_command (codes "create") (codes "churn") rows others met refl is also);
 }
 
@@ -139,6 +143,7 @@ serves_none met rows is lacks = record {
   create = λ others also. absurd (other_command (codes "serve") (codes "create") rows others met refl is also);
   serve = λ others also. subst (λ (r : List Row). LacksServeValue (value_among r)) (ap rows_met (sym is ∙ also)) lacks;
   collect = λ others also. absurd (other_command (codes "serve") (codes "collect") rows others met refl is also);
+  check = λ others also. absurd (other_command (codes "serve") (codes "check") rows others met refl is also);
   churn = λ others also. absurd (other_command (codes "serve") (codes "churn") rows others met refl is also);
 }
 
@@ -150,7 +155,20 @@ collects_none met rows is lacks = record {
   create = λ others also. absurd (other_command (codes "collect") (codes "create") rows others met refl is also);
   serve = λ others also. absurd (other_command (codes "collect") (codes "serve") rows others met refl is also);
   collect = λ others also. subst (λ (r : List Row). LacksMountValue (value_among r)) (ap rows_met (sym is ∙ also)) lacks;
+  check = λ others also. absurd (other_command (codes "collect") (codes "check") rows others met refl is also);
   churn = λ others also. absurd (other_command (codes "collect") (codes "churn") rows others met refl is also);
+}
+
+pub checks_none : (met : Option (Text × List Row)) (rows : List Row) → met ≡ met_as (codes "check") rows
+    → LacksCheckValue (value_among rows)
+    → MakesNone met
+checks_none met rows is lacks = record {
+  replay = λ others also. other_command (codes "check") (codes "replay") rows others met refl is also;
+  create = λ others also. absurd (other_command (codes "check") (codes "create") rows others met refl is also);
+  serve = λ others also. absurd (other_command (codes "check") (codes "serve") rows others met refl is also);
+  collect = λ others also. absurd (other_command (codes "check") (codes "collect") rows others met refl is also);
+  check = λ others also. subst (λ (r : List Row). LacksCheckValue (value_among r)) (ap rows_met (sym is ∙ also)) lacks;
+  churn = λ others also. absurd (other_command (codes "check") (codes "churn") rows others met refl is also);
 }
 
 pub churns_none : (met : Option (Text × List Row)) (rows : List Row) → met ≡ met_as (codes "churn") rows
@@ -161,6 +179,7 @@ churns_none met rows is lacks = record {
   create = λ others also. absurd (other_command (codes "churn") (codes "create") rows others met refl is also);
   serve = λ others also. absurd (other_command (codes "churn") (codes "serve") rows others met refl is also);
   collect = λ others also. absurd (other_command (codes "churn") (codes "collect") rows others met refl is also);
+  check = λ others also. absurd (other_command (codes "churn") (codes "check") rows others met refl is also);
   churn = λ others also. subst (λ (r : List Row). HasBadNumber (value_among r)) (ap rows_met (sym is ∙ also)) lacks;
 }
 
@@ -172,6 +191,7 @@ command_for Replay = codes "replay"
 command_for (Create asked) = codes "create"
 command_for (Serve asked) = codes "serve"
 command_for (Collect asked) = codes "collect"
+command_for (Check asked) = codes "check"
 command_for (Churn asked) = codes "churn"
 
 -- it is what clap met
@@ -181,6 +201,7 @@ made_as met Replay (rows, is) = (rows, is)
 made_as met (Create asked) (rows, is, asks) = (rows, is)
 made_as met (Serve asked) (rows, is, asks) = (rows, is)
 made_as met (Collect asked) (rows, is, asks) = (rows, is)
+made_as met (Check asked) (rows, is, asks) = (rows, is)
 made_as met (Churn asked) (rows, is, asks) = (rows, is)
 
 -- so no line makes the request of another command
@@ -198,30 +219,42 @@ found_asks replay met Replay found made = tt
 found_asks replay met (Create asked) found made = absurd (apart replay (Create asked) met refl found made)
 found_asks replay met (Serve asked) found made = absurd (apart replay (Serve asked) met refl found made)
 found_asks replay met (Collect asked) found made = absurd (apart replay (Collect asked) met refl found made)
+found_asks replay met (Check asked) found made = absurd (apart replay (Check asked) met refl found made)
 found_asks replay met (Churn asked) found made = absurd (apart replay (Churn asked) met refl found made)
 found_asks (create options) met Replay found made = absurd (apart (create options) Replay met refl found made)
 found_asks (create options) met (Create asked) found (rows, is, asks) =
     values_met (λ value. AsksToCreate value asked) (create options) met (codes "create") rows found is asks
 found_asks (create options) met (Serve asked) found made = absurd (apart (create options) (Serve asked) met refl found made)
 found_asks (create options) met (Collect asked) found made = absurd (apart (create options) (Collect asked) met refl found made)
+found_asks (create options) met (Check asked) found made = absurd (apart (create options) (Check asked) met refl found made)
 found_asks (create options) met (Churn asked) found made = absurd (apart (create options) (Churn asked) met refl found made)
 found_asks (serve options) met Replay found made = absurd (apart (serve options) Replay met refl found made)
 found_asks (serve options) met (Create asked) found made = absurd (apart (serve options) (Create asked) met refl found made)
 found_asks (serve options) met (Serve asked) found (rows, is, asks) =
     values_met (λ value. AsksToServe value asked) (serve options) met (codes "serve") rows found is asks
 found_asks (serve options) met (Collect asked) found made = absurd (apart (serve options) (Collect asked) met refl found made)
+found_asks (serve options) met (Check asked) found made = absurd (apart (serve options) (Check asked) met refl found made)
 found_asks (serve options) met (Churn asked) found made = absurd (apart (serve options) (Churn asked) met refl found made)
 found_asks (collect options) met Replay found made = absurd (apart (collect options) Replay met refl found made)
 found_asks (collect options) met (Create asked) found made = absurd (apart (collect options) (Create asked) met refl found made)
 found_asks (collect options) met (Serve asked) found made = absurd (apart (collect options) (Serve asked) met refl found made)
 found_asks (collect options) met (Collect asked) found (rows, is, asks) =
     values_met (λ value. AsksToMount value asked) (collect options) met (codes "collect") rows found is asks
+found_asks (collect options) met (Check asked) found made = absurd (apart (collect options) (Check asked) met refl found made)
 found_asks (collect options) met (Churn asked) found made = absurd (apart (collect options) (Churn asked) met refl found made)
+found_asks (check options) met Replay found made = absurd (apart (check options) Replay met refl found made)
+found_asks (check options) met (Create asked) found made = absurd (apart (check options) (Create asked) met refl found made)
+found_asks (check options) met (Serve asked) found made = absurd (apart (check options) (Serve asked) met refl found made)
+found_asks (check options) met (Collect asked) found made = absurd (apart (check options) (Collect asked) met refl found made)
+found_asks (check options) met (Check asked) found (rows, is, asks) =
+    values_met (λ value. AsksToCheck value asked) (check options) met (codes "check") rows found is asks
+found_asks (check options) met (Churn asked) found made = absurd (apart (check options) (Churn asked) met refl found made)
 found_asks (churn steps seed) met Replay found made = absurd (apart (churn steps seed) Replay met refl found made)
 found_asks (churn steps seed) met (Create asked) found made = absurd (apart (churn steps seed) (Create asked) met refl found made)
 found_asks (churn steps seed) met (Serve asked) found made = absurd (apart (churn steps seed) (Serve asked) met refl found made)
 found_asks (churn steps seed) met (Collect asked) found made =
     absurd (apart (churn steps seed) (Collect asked) met refl found made)
+found_asks (churn steps seed) met (Check asked) found made = absurd (apart (churn steps seed) (Check asked) met refl found made)
 found_asks (churn steps seed) met (Churn asked) found (rows, is, asks) =
     values_met (λ value. AsksToChurn value asked) (churn steps seed) met (codes "churn") rows found is asks
 
@@ -252,6 +285,12 @@ found_asks_nothing words (serve options) met (are, end) (rows, is, same) makes =
 found_asks_nothing words (collect options) met (are, end) (rows, is, same) makes =
     mount_lacks options are
     (values_met LacksMountValue (collect options) met (codes "collect") rows (rows, is, same) is (makes.collect rows is))
+found_asks_nothing words (check options) met (are, end) (rows, is, same) makes =
+    go (values_met LacksCheckValue (check options) met (codes "check") rows (rows, is, same) is (makes.check rows is))
+  where
+    go : LacksCheckValue (check_value options) → HasBadCheckValue (check_value options)
+    go (inl bad) = bad
+    go (inr lacks) = absurd (lacks_none check_options options are lacks)
 found_asks_nothing words (churn steps seed) met spelled (rows, is, same) makes =
     values_met HasBadNumber (churn steps seed) met (codes "churn") rows (rows, is, same) is (makes.churn rows is)
 
@@ -265,6 +304,7 @@ replay_is_read (Ok Replay) read = inl refl
 replay_is_read (Ok (Create request)) read = absurd read
 replay_is_read (Ok (Serve request)) read = absurd read
 replay_is_read (Ok (Collect request)) read = absurd read
+replay_is_read (Ok (Check request)) read = absurd read
 replay_is_read (Ok (Churn request)) read = absurd read
 replay_is_read (Err Usage) read = absurd read
 replay_is_read (Err OutOfMemory) read = inr refl
@@ -335,6 +375,10 @@ pub collect_valid_is_read : (options : List Given) (result : Answer) → AreVali
     → IsNoUuid (collect_value options) (codes "volume")
 collect_valid_is_read options result valid read usage =
     bad_mount_valid (collect_value options) valid.log.0 valid.log.1 (usage_is_read (collect options) result read usage)
+
+pub check_valid_is_read : (options : List Given) (result : Answer) → IsRead (check options) result → IsErrOf result Usage
+    → IsNoUuid (check_value options) (codes "volume")
+check_valid_is_read options result read usage = usage_is_read (check options) result read usage
 
 -- two numbers in their limits are no bad words
 bad_churn_valid : (steps seed : ℕ) → steps ≤ 1000000 → seed < 2 ^ 64 → HasBadNumber (churn_value (decimal steps) (decimal seed))

@@ -5,6 +5,7 @@ use Rattle.clap.specs.Walk.{Text}
 use Rattle.clap.specs.Faults.{fault_of}
 use Rattle.clap.specs.Kinds.{Kinds, IsAmong}
 use Rattle.clap.specs.declared.error.kind.ErrorKind.TheVariants.{DisplayHelp, DisplayVersion}
+use Rattle.command_line.specs.Check.{AsksToCheck, HasBadCheckValue, check_options, check_value}
 use Rattle.command_line.specs.Churn.{AreNumbers, AsksToChurn, HasBadNumber, churn_value}
 use Rattle.command_line.specs.Collect.{collect_options, collect_value}
 use Rattle.command_line.specs.Create.{AsksToCreate, HasBadValue, create_options, value_in}
@@ -15,7 +16,7 @@ use Rattle.command_line.specs.Serve.{AsksToServe, HasBadServeValue, serve_option
 use Rattle.command_line.specs.declared.request.CommandLineError.{CommandLineError}
 use Rattle.command_line.specs.declared.request.CommandLineError.TheVariants.{Usage, OutOfMemory}
 use Rattle.command_line.specs.declared.request.Request.{Request}
-use Rattle.command_line.specs.declared.request.Request.TheVariants.{Replay, Create, Serve, Collect, Churn}
+use Rattle.command_line.specs.declared.request.Request.TheVariants.{Replay, Create, Serve, Collect, Check, Churn}
 
 -- the kinds of error by which clap refuses the words after the program's name
 unfoldable pub faults_of : List Text → Kinds
@@ -31,7 +32,7 @@ AsksForHelp words = IsAmong DisplayHelp (faults_of words) ⊎ IsAmong DisplayVer
 
 -- the names of the commands
 abbrev pub commands : List Text
-commands = codes "replay" ∷ codes "create" ∷ codes "serve" ∷ codes "collect" ∷ codes "churn" ∷ []
+commands = codes "replay" ∷ codes "create" ∷ codes "serve" ∷ codes "collect" ∷ codes "check" ∷ codes "churn" ∷ []
 
 -- the words are told to be no command line, or it is out of memory
 abbrev pub IsRefused : Result Request CommandLineError → Type 0
@@ -45,6 +46,7 @@ pub data Line : Type 0 where
   create : List Given → Line
   serve : List Given → Line
   collect : List Given → Line
+  check : List Given → Line
   churn : (steps seed : Text) → Line
 
 -- the words that make a line: its command with its options, which `--` may end, or with its words
@@ -55,6 +57,7 @@ Spells words (create options) = AreOptionsOf create_options options
 Spells words (serve options) = AreOptionsOf serve_options options × MayEnd (codes "serve" ∷ flat_map option_words options) words
 Spells words (collect options) = AreOptionsOf collect_options options
     × MayEnd (codes "collect" ∷ flat_map option_words options) words
+Spells words (check options) = AreOptionsOf check_options options × MayEnd (codes "check" ∷ flat_map option_words options) words
 Spells words (churn steps seed) = (rest : List Text) × (words ≡ codes "churn" ∷ rest) × AreNumbers steps seed rest
 
 -- the line asks for this
@@ -63,6 +66,7 @@ IsAskedBy replay Replay = Unit {0}
 IsAskedBy (create options) (Create request) = AsksToCreate (value_in options) request
 IsAskedBy (serve options) (Serve request) = AsksToServe (serve_value options) request
 IsAskedBy (collect options) (Collect request) = AsksToMount (collect_value options) request
+IsAskedBy (check options) (Check request) = AsksToCheck (check_value options) request
 IsAskedBy (churn steps seed) (Churn request) = AsksToChurn (churn_value steps seed) request
 IsAskedBy _ _ = ⊥
 
@@ -72,6 +76,7 @@ HasBadOptions replay = ⊥
 HasBadOptions (create options) = HasBadValue (value_in options)
 HasBadOptions (serve options) = HasBadServeValue (serve_value options)
 HasBadOptions (collect options) = HasBadMountValue (collect_value options)
+HasBadOptions (check options) = HasBadCheckValue (check_value options)
 HasBadOptions (churn steps seed) = HasBadNumber (churn_value steps seed)
 
 -- how the line is read

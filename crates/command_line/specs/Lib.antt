@@ -1,3 +1,4 @@
+pub mod Check
 pub mod Churn
 pub mod Collect
 pub mod CommandLine

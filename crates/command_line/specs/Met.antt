@@ -3,6 +3,7 @@ use Rattle.std.specs.Prelude.{◌≡◌, ◌⊎◌, ◌-◌, ◌^◌, ◌&&◌, 
 use Rattle.std.specs.List.{list_any}
 use Rattle.std.specs.Str.{bytes_eq}
 use Rattle.clap.specs.Walk.{Row, Text, first_of}
+use Rattle.command_line.specs.Check.{AsksToCheck, HasBadCheckValue, check_options}
 use Rattle.command_line.specs.Churn.{AsksToChurn, HasBadNumber}
 use Rattle.command_line.specs.Create.{AsksToCreate, HasBadValue, create_options}
 use Rattle.command_line.specs.Mount.{AsksToMount, HasBadMountValue}
@@ -10,7 +11,7 @@ use Rattle.command_line.specs.Options.{CommandOption, is_required, option_name}
 use Rattle.command_line.specs.Serve.{AsksToServe, HasBadServeValue, serve_options}
 use Rattle.command_line.specs.Values.{IsBetween}
 use Rattle.command_line.specs.declared.request.Request.{Request}
-use Rattle.command_line.specs.declared.request.Request.TheVariants.{Replay, Create, Serve, Collect, Churn}
+use Rattle.command_line.specs.declared.request.Request.TheVariants.{Replay, Create, Serve, Collect, Check, Churn}
 use Rattle.command_line.specs.declared.serve.Counts.{Counts}
 use Rattle.command_line.specs.declared.values.Files.{Files}
 
@@ -27,12 +28,15 @@ abbrev pub LacksRequired : List CommandOption → (Text → Option Text) → Typ
 LacksRequired command value = (name : Text)
     × (list_any (λ option. is_required option && bytes_eq (option_name option) name) command ≡ true) × (value name ≡ None)
 
--- the values ask `create` for nothing, and so `serve`
+-- the values ask `create` for nothing, and so `serve` and `check`
 abbrev pub LacksValue : (Text → Option Text) → Type 0
 LacksValue value = HasBadValue value ⊎ LacksRequired create_options value
 
 abbrev pub LacksServeValue : (Text → Option Text) → Type 0
 LacksServeValue value = HasBadServeValue value ⊎ LacksRequired serve_options value
+
+abbrev pub LacksCheckValue : (Text → Option Text) → Type 0
+LacksCheckValue value = HasBadCheckValue value ⊎ LacksRequired check_options value
 
 -- the values name these files
 pub record NamesFiles (value : Text → Option Text) (files : Files) : Type 0 where
@@ -58,6 +62,7 @@ IsMadeOf met Replay = (rows : List Row) × IsMet met (codes "replay") rows
 IsMadeOf met (Create request) = (rows : List Row) × IsMet met (codes "create") rows × AsksToCreate (value_among rows) request
 IsMadeOf met (Serve request) = (rows : List Row) × IsMet met (codes "serve") rows × AsksToServe (value_among rows) request
 IsMadeOf met (Collect request) = (rows : List Row) × IsMet met (codes "collect") rows × AsksToMount (value_among rows) request
+IsMadeOf met (Check request) = (rows : List Row) × IsMet met (codes "check") rows × AsksToCheck (value_among rows) request
 IsMadeOf met (Churn request) = (rows : List Row) × IsMet met (codes "churn") rows × AsksToChurn (value_among rows) request
 
 -- the command makes no request
@@ -66,4 +71,5 @@ pub record MakesNone (met : Option (Text × List Row)) : Type 0 where
   pub create : (rows : List Row) → IsMet met (codes "create") rows → LacksValue (value_among rows)
   pub serve : (rows : List Row) → IsMet met (codes "serve") rows → LacksServeValue (value_among rows)
   pub collect : (rows : List Row) → IsMet met (codes "collect") rows → LacksMountValue (value_among rows)
+  pub check : (rows : List Row) → IsMet met (codes "check") rows → LacksCheckValue (value_among rows)
   pub churn : (rows : List Row) → IsMet met (codes "churn") rows → HasBadNumber (value_among rows)

@@ -8,10 +8,11 @@ use Rattle.clap.specs.Facts.{args_of}
 use Rattle.clap.specs.declared.builder.command.Command.{Command}
 use Rattle.clap.specs.declared.builder.command.Command.TheViews.{out-Command}
 use Rattle.uuid.specs.Text.{parsed}
+use Rattle.command_line.specs.Check.{check_options, check_value}
 use Rattle.command_line.specs.Churn.{churn_value}
 use Rattle.command_line.specs.Collect.{collect_options, collect_value}
-use Rattle.command_line.specs.CommandLine.{HasBadOptions, IsAskedBy, IsFaulty, Line, Spells, churn, collect, commands, create}
-use Rattle.command_line.specs.CommandLine.{replay, serve}
+use Rattle.command_line.specs.CommandLine.{HasBadOptions, IsAskedBy, IsFaulty, Line, Spells, check, churn, collect, commands}
+use Rattle.command_line.specs.CommandLine.{create, replay, serve}
 use Rattle.command_line.specs.Create.{create_options, value_in}
 use Rattle.command_line.specs.Met.{IsMet, value_among}
 use Rattle.command_line.specs.Options.{CommandOption, flag, is_required, option_name, rule_for, takes_value}
@@ -88,7 +89,8 @@ abbrev pub options_of : Text → List CommandOption
 options_of command =
     flag (codes "help") ∷ (if bytes_eq command (codes "create") then create_options
     else (if bytes_eq command (codes "serve") then serve_options
-    else (if bytes_eq command (codes "collect") then collect_options else [])))
+    else (if bytes_eq command (codes "collect") then collect_options
+    else (if bytes_eq command (codes "check") then check_options else []))))
 
 -- ---- what is said of the values of options
 
@@ -110,6 +112,7 @@ line_value replay name = None
 line_value (create options) name = value_in options name
 line_value (serve options) name = serve_value options name
 line_value (collect options) name = collect_value options name
+line_value (check options) name = check_value options name
 line_value (churn steps seed) name = churn_value steps seed name
 
 -- ---- what is said

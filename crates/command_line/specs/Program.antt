@@ -1,6 +1,7 @@
 -- Contract: the commands of the program, as clap reads them.
-use Rattle.std.specs.Prelude.{[], codes, map, true}
+use Rattle.std.specs.Prelude.{[], ◌∷◌, codes, fold, map, true}
 use Rattle.clap.specs.Simple.{App, Shape, new_shape, with_subcommand}
+use Rattle.command_line.specs.Check.{check_options}
 use Rattle.command_line.specs.Churn.{churn_rules}
 use Rattle.command_line.specs.Collect.{collect_options}
 use Rattle.command_line.specs.Create.{create_options}
@@ -19,6 +20,9 @@ serve = record (new_shape (codes "serve")) { rules = map rule_for serve_options 
 
 abbrev pub collect : Shape
 collect = record (new_shape (codes "collect")) { rules = map rule_for collect_options }
+
+abbrev pub check : Shape
+check = record (new_shape (codes "check")) { rules = map rule_for check_options }
 
 -- `churn` has no options, but two words that have their places
 abbrev pub churn : Shape
@@ -39,6 +43,4 @@ bare = record {
 
 -- the program with all its commands
 unfoldable pub lsvdctl : App
-lsvdctl =
-    with_subcommand (with_subcommand (with_subcommand (with_subcommand (with_subcommand bare replay) create) serve) collect)
-    churn
+lsvdctl = fold with_subcommand bare (replay ∷ create ∷ serve ∷ collect ∷ check ∷ churn ∷ [])

@@ -19,6 +19,7 @@ pub(crate) fn bad_value_in<'a>(matches: &ArgMatches<'a>) -> Option<Mistake<'a>>
         "create" => bad_value_to_create(values),
         "serve" => bad_value_to_serve(values),
         "collect" => bad_value_to_mount(values),
+        "check" => bad_uuid(values, "volume"),
         "churn" => bad_word_to_churn(values),
         _ => None,
     }

@@ -7,6 +7,7 @@
 #![tactic(auto)]
 
 mod bad_values;
+mod check;
 mod churn;
 mod collect;
 mod create;
@@ -22,6 +23,7 @@ mod request;
 mod serve;
 mod values;
 
+pub use check::CheckRequest;
 pub use churn::ChurnRequest;
 pub use create::CreateRequest;
 pub use help::help_of;

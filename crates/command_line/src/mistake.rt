@@ -82,16 +82,16 @@ pub enum Mistake<'a> {
     Other,
 }
 
+// What is told of the commands where the first word is none.
+const COMMANDS: &str = "the commands are replay, create, serve, collect, check and churn";
+
 impl fmt::Display for Mistake<'_> {
     fn fmt<W: fmt::Write>(&self, f: &mut fmt::Formatter<W>) -> fmt::Result {
         match self {
-            Mistake::NoCommand => f.write_str(
-                "no command is given; the commands are replay, create, serve, collect and churn",
-            ),
-            Mistake::UnknownCommand { word } => write!(
-                f,
-                "there is no command {word:?}; the commands are replay, create, serve, collect and churn"
-            ),
+            Mistake::NoCommand => write!(f, "no command is given; {COMMANDS}"),
+            Mistake::UnknownCommand { word } => {
+                write!(f, "there is no command {word:?}; {COMMANDS}")
+            }
             Mistake::UnknownOption { command, option } => {
                 write!(f, "there is no option {option:?} of {command}")
             }

@@ -4,6 +4,7 @@ ghost use Rattle.clap.specs.declared.builder.command.Command.TheViews.{out-Comma
 ghost use Rattle.command_line.specs.Program.{bare, lsvdctl, replay};
 ghost use Rattle.command_line.specs.CommandLine.{faults_of};
 
+use crate::check::check_command;
 use crate::churn::churn_command;
 use crate::collect::collect_command;
 use crate::create::create_command;
@@ -46,6 +47,11 @@ pub(crate) fn program<'a>(alloc: Global) -> Result<Command<'a>, AllocError>
         return Err(AllocError);
     };
     let program = program.subcommand(collect)?;
+    let Ok(check) = check_command(alloc) else {
+        drop(program);
+        return Err(AllocError);
+    };
+    let program = program.subcommand(check)?;
     let Ok(churn) = churn_command(alloc) else {
         drop(program);
         return Err(AllocError);

@@ -4,6 +4,7 @@ ghost use Rattle.std.specs.List.{All, flat_map};
 ghost use Rattle.clap.specs.Words.{kind_of, subcommand_rows_of};
 ghost use Rattle.clap.specs.declared.error.kind.ErrorKind.TheVariants as kinds;
 ghost use Rattle.lsvd_base.specs.declared.geometry.Geometry.{Geometry};
+ghost use Rattle.command_line.specs.Check.{AreValidToCheck, check_value};
 ghost use Rattle.command_line.specs.Collect.{AreValidToCollect, collect_value};
 ghost use Rattle.command_line.specs.CommandLine.{HasBadOptions, IsAskedBy, IsFaulty, IsRead, IsRefused, Line};
 ghost use Rattle.command_line.specs.CommandLine.{Spells, commands};
@@ -13,6 +14,7 @@ ghost use Rattle.command_line.specs.Options.{Given, option_words};
 ghost use Rattle.command_line.specs.Serve.{AreValidToServe, serve_value};
 ghost use Rattle.command_line.specs.Values.{IsNoUuid};
 
+use crate::check::{CheckRequest, check_in};
 use crate::churn::{ChurnRequest, churn_in};
 use crate::create::{CreateRequest, create_in};
 use crate::mount::{MountRequest, mount_in};
@@ -34,6 +36,8 @@ pub enum Request<'a> {
     Serve(ServeRequest<'a>),
     /// Collect a volume.
     Collect(MountRequest<'a>),
+    /// Check what a store has of a volume.
+    Check(CheckRequest<'a>),
     /// Run a script that is generated.
     Churn(ChurnRequest),
 }
@@ -76,13 +80,16 @@ pub fn request_of<'a>(alloc: Global, words: &'a [String]) -> Result<Request<'a>,
         → IsErrOf result CommandLineError.Usage → HasBadUuid (value_in options)
         ⊎ (sizes.log < 2 * (sizes.max_write + 1)) }
 
-    // And plain options of `serve` and of `collect` for a text that is no uuid alone.
+    // And plain options of `serve`, `collect` and `check` for a text that is no uuid alone.
     ensures serve_valid { (options : List Given) → AreValidToServe options
         → map string_bytes words.now ≡ codes "serve" ∷ flat_map option_words options
         → IsErrOf result CommandLineError.Usage → IsNoUuid (serve_value options) (codes "volume") }
     ensures collect_valid { (options : List Given) → AreValidToCollect options
         → map string_bytes words.now ≡ codes "collect" ∷ flat_map option_words options
         → IsErrOf result CommandLineError.Usage → IsNoUuid (collect_value options) (codes "volume") }
+    ensures check_valid { (options : List Given) → AreValidToCheck options
+        → map string_bytes words.now ≡ codes "check" ∷ flat_map option_words options
+        → IsErrOf result CommandLineError.Usage → IsNoUuid (check_value options) (codes "volume") }
 
     // Two numbers in their limits, in decimal digits, are not refused of `churn`.
     ensures churn_valid { (steps seed : ℕ) → steps ≤ 1000000 → seed < 2 ^ 64
@@ -117,6 +124,10 @@ pub(crate) fn request_in<'a>(matches: &ArgMatches<'a>) -> Option<Request<'a>>
         },
         "collect" => match mount_in(values) {
             Some(request) => Some(Request::Collect(request)),
+            None => None,
+        },
+        "check" => match check_in(values) {
+            Some(request) => Some(Request::Check(request)),
             None => None,
         },
         "churn" => match churn_in(values) {

@@ -2,14 +2,14 @@ use Rattle.std.proofs.Common.{List, inl, inr, map, string_bytes, subst, sym}
 use Rattle.std.specs.Prelude.{Err, Ok, decimal}
 use Rattle.clap.specs.Walk.{Text}
 use Rattle.clap.specs.Simple.{subcommand_of}
-use Rattle.command_line.specs.CommandLine.{IsRead, Line, Spells, churn, collect, create, faults_of, replay, serve}
+use Rattle.command_line.specs.CommandLine.{IsRead, Line, Spells, check, churn, collect, create, faults_of, replay, serve}
 use Rattle.command_line.specs.Program.{lsvdctl}
 use Rattle.command_line.specs.declared.request.CommandLineError.{CommandLineError}
 use Rattle.command_line.specs.declared.request.CommandLineError.TheVariants.{Usage}
 use Rattle.command_line.proofs.Lines.{IsFound, error_of_taken, spelled_is_found, spelled_is_taken, spells_a_command}
 use Rattle.command_line.proofs.Lines.{taken_is_spelled}
-use Rattle.command_line.proofs.Requests.{churn_valid_is_read, collect_valid_is_read, found_asks, found_asks_nothing}
-use Rattle.command_line.proofs.Requests.{numbers_spell, replay_is_read, serve_valid_is_read, valid_is_read}
+use Rattle.command_line.proofs.Requests.{check_valid_is_read, churn_valid_is_read, collect_valid_is_read, found_asks}
+use Rattle.command_line.proofs.Requests.{found_asks_nothing, numbers_spell, replay_is_read, serve_valid_is_read, valid_is_read}
 use Rattle.command_line.proofs.request.request_of.Goals as goal
 use Rattle.command_line.proofs.request.request_of.Goals.{Joined-error, Joined-matches, Joined-matches-2}
 
@@ -44,6 +44,10 @@ returns-in-Err-clause-serve_valid c options valid is =
 pub returns-in-Err-clause-collect_valid : goal.returns-in-Err-clause-collect_valid
 returns-in-Err-clause-collect_valid c options valid is =
     collect_valid_is_read options (Err c.cause_of.result) valid (read_of_error c (collect options) (valid.are, inl is))
+
+pub returns-in-Err-clause-check_valid : goal.returns-in-Err-clause-check_valid
+returns-in-Err-clause-check_valid c options valid is =
+    check_valid_is_read options (Err c.cause_of.result) (read_of_error c (check options) (valid.are, inl is))
 
 pub returns-in-Err-clause-churn_valid : goal.returns-in-Err-clause-churn_valid
 returns-in-Err-clause-churn_valid c steps seed few small is =
@@ -105,6 +109,10 @@ returns-clause-serve_valid c options valid is =
 pub returns-clause-collect_valid : goal.returns-clause-collect_valid
 returns-clause-collect_valid c options valid is =
     collect_valid_is_read options (Err Usage) valid (read_of_none c (collect options) (valid.are, inl is))
+
+pub returns-clause-check_valid : goal.returns-clause-check_valid
+returns-clause-check_valid c options valid is =
+    check_valid_is_read options (Err Usage) (read_of_none c (check options) (valid.are, inl is))
 
 pub returns-clause-churn_valid : goal.returns-clause-churn_valid
 returns-clause-churn_valid c steps seed few small is =
