@@ -1,0 +1,13 @@
+pub mod FilterLemmas
+pub mod SetLemmas
+pub mod RowLemmas
+pub mod NamedLemmas
+pub mod HeldLemmas
+pub mod HeaderLemmas
+pub mod SourceLemmas
+pub mod NumberLemmas
+pub mod MissingLemmas
+pub mod ReportLemmas
+pub mod RefusalLemmas
+pub mod CheckLemmas
+pub mod WholeLemmas
