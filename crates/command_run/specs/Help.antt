@@ -4,7 +4,7 @@ use Rattle.std.specs.Io.KnownBytes.{Appends}
 use Rattle.command_line.specs.CommandLine.{AsksForHelp}
 use Rattle.lsvd_fault.specs.Faults.{CountsOne}
 use Rattle.volume_commands.specs.declared.report.Report.{Report}
-use Rattle.volume_commands.specs.declared.report.Report.TheVariants.{Done, Fault, Usage, BadLine, Refused, Memory}
+use Rattle.volume_commands.specs.declared.report.Report.TheVariants.{Done, Fault, Usage, BadLine, Refused, Missing, Memory}
 
 -- what the output took, and its count of faults, where the answer ended so
 abbrev pub IsHelpAnswered : List (List ℕ) → Report → Option (List ℕ) → Option (List ℕ) → ℕ → ℕ → Type 0
@@ -18,3 +18,4 @@ IsHelpAnswered words Memory old new before now = (new ≡ old) × (now ≡ befor
 IsHelpAnswered words Usage old new before now = ⊥
 IsHelpAnswered words (BadLine number reason) old new before now = ⊥
 IsHelpAnswered words (Refused why) old new before now = ⊥
+IsHelpAnswered words Missing old new before now = ⊥

@@ -7,13 +7,18 @@ use Rattle.lsvd_objstore.specs.Store.{ReceiptState}
 use Rattle.clap.specs.Walk.{Text}
 use Rattle.transcript.specs.Answers.{State}
 use Rattle.transcript.specs.Transcript.{AllAnswered, Stopped, IsTranscript, IsFrontOfTranscript}
+use Rattle.command_line.specs.Check.{AsksToCheck, HasBadCheckValue, check_value}
 use Rattle.command_line.specs.Churn.{AsksToChurn, HasBadNumber, churn_value}
-use Rattle.command_line.specs.CommandLine.{IsFaulty, Spells, replay, create, serve, churn}
+use Rattle.command_line.specs.Collect.{collect_value}
+use Rattle.command_line.specs.CommandLine.{IsFaulty, Spells, replay, create, serve, collect, check, churn}
 use Rattle.command_line.specs.Create.{AsksToCreate, HasBadValue, value_in}
+use Rattle.command_line.specs.Mount.{AsksToMount, HasBadMountValue}
 use Rattle.command_line.specs.Options.{Given}
 use Rattle.command_line.specs.Serve.{AsksToServe, HasBadServeValue, serve_value}
+use Rattle.command_line.specs.declared.check.CheckRequest.{CheckRequest}
 use Rattle.command_line.specs.declared.churn.ChurnRequest.{ChurnRequest}
 use Rattle.command_line.specs.declared.create.CreateRequest.{CreateRequest}
+use Rattle.command_line.specs.declared.mount.MountRequest.{MountRequest}
 use Rattle.command_line.specs.declared.serve.ServeRequest.{ServeRequest}
 use Rattle.plain_disk.specs.State.{PlainState}
 use Rattle.vol_replay.specs.Churn.{IsChurn}
@@ -23,13 +28,15 @@ use Rattle.vol_replay.specs.declared.outcome.ChurnOutcome.TheVariants as churn_o
 use Rattle.vol_replay.specs.declared.outcome.Outcome.{Outcome}
 use Rattle.vol_replay.specs.declared.outcome.Outcome.TheVariants as outcomes
 use Rattle.volume_server.specs.Serving.{ListenerState, ConnectionState}
+use Rattle.volume_commands.specs.Checking.{TellsCheck, Checks, RefusesCheck}
+use Rattle.volume_commands.specs.Collecting.{TellsCollection, Collects}
 use Rattle.volume_commands.specs.Creating.{TellsCreation, Creates, RefusesToCreate}
-use Rattle.volume_commands.specs.Mounting.{Serves, RefusesFor}
-use Rattle.volume_commands.specs.Serving.{TellsServing}
+use Rattle.volume_commands.specs.Mounting.{RefusesFor}
+use Rattle.volume_commands.specs.Serving.{TellsServing, Serves}
 use Rattle.volume_commands.specs.World.{Places, CountsOneOf, CountsNone}
 use Rattle.refusals.specs.declared.refusal.Refusal.{Refusal}
 use Rattle.volume_commands.specs.declared.report.Report.{Report}
-use Rattle.volume_commands.specs.declared.report.Report.TheVariants.{Done, Fault, Usage, BadLine, Refused, Memory}
+use Rattle.volume_commands.specs.declared.report.Report.TheVariants.{Done, Fault, Usage, BadLine, Refused, Missing, Memory}
 
 -- ---- replays
 
@@ -53,6 +60,7 @@ IsReported script text Memory = IsFrontOfTranscript script text
 -- a replay does not end so
 IsReported script text Usage = ⊥
 IsReported script text (Refused why) = ⊥
+IsReported script text Missing = ⊥
 
 -- the output took what the script on the input is answered with
 abbrev pub RunsReplay : Report → (input : Option (List ℕ)) → (old new : Option (List ℕ)) → Type 0
@@ -79,6 +87,7 @@ TellsChurn request Memory old new = new ≡ old
 TellsChurn request Usage old new = ⊥
 TellsChurn request (BadLine number reason) old new = ⊥
 TellsChurn request (Refused why) old new = ⊥
+TellsChurn request Missing old new = ⊥
 
 -- the words ask for a churn, and the output took what is told of it; or they ask for nothing, or memory ran out
 abbrev pub RunsChurn : (steps seed : List ℕ) → Report → (old new : Option (List ℕ)) → Type 0
@@ -107,6 +116,26 @@ RunsServe options Memory old new = TellsServing Memory old new
 RunsServe options report old new =
     (request : ServeRequest) × AsksToServe (serve_value options) request × TellsServing report old new
 
+-- ---- collections
+
+-- the values of these options ask for a volume to be collected, and the output took what is told of that; or they ask for
+-- nothing, or memory ran out before they were read
+abbrev pub RunsCollect : List Given → Report → (old new : Option (List ℕ)) → Type 0
+RunsCollect options Usage old new = HasBadMountValue (collect_value options) × (new ≡ old)
+RunsCollect options Memory old new = TellsCollection Memory old new
+RunsCollect options report old new =
+    (request : MountRequest) × AsksToMount (collect_value options) request × TellsCollection report old new
+
+-- ---- checks
+
+-- the values of these options ask for a volume to be checked, and the output took what is told of that; or they ask for nothing,
+-- or memory ran out
+abbrev pub RunsCheck : List Given → Report → (old new : Option (List ℕ)) → Type 0
+RunsCheck options Usage old new = HasBadCheckValue (check_value options) × (new ≡ old)
+RunsCheck options Memory old new = new ≡ old
+RunsCheck options report old new =
+    (request : CheckRequest) × AsksToCheck (check_value options) request × TellsCheck report old new
+
 -- ---- runs
 
 -- What the output took for the words, where the run ended so. Words that are not faulty spell a command.
@@ -114,22 +143,26 @@ pub record Runs (words : List Text) (report : Report) (input old new : Option (L
   pub replay : Spells words replay → RunsReplay report input old new
   pub create : (options : List Given) → Spells words (create options) → RunsCreate options report old new
   pub serve : (options : List Given) → Spells words (serve options) → RunsServe options report old new
+  pub collect : (options : List Given) → Spells words (collect options) → RunsCollect options report old new
+  pub check : (options : List Given) → Spells words (check options) → RunsCheck options report old new
   pub churn : (steps seed : List ℕ) → Spells words (churn steps seed) → RunsChurn steps seed report old new
   pub faulty : IsFaulty words → ((report ≡ Usage) ⊎ (report ≡ Memory)) × (new ≡ old)
 
--- why words are refused: they are faulty, or the values of the options of `create` or `serve`, or the words of `churn`, ask for
--- nothing
+-- why words are refused: they are faulty, or the values of the options of `create`, `serve`, `collect` or `check`, or the
+-- words of `churn`, ask for nothing
 abbrev pub AreWordsRefused : List Text → Type 0
 AreWordsRefused words =
     IsFaulty words
     ⊎ (((options : List Given) × Spells words (create options) × HasBadValue (value_in options))
     ⊎ (((options : List Given) × Spells words (serve options) × HasBadServeValue (serve_value options))
-    ⊎ ((steps : List ℕ) × (seed : List ℕ) × Spells words (churn steps seed) × HasBadNumber (churn_value steps seed))))
+    ⊎ (((options : List Given) × Spells words (collect options) × HasBadMountValue (collect_value options))
+    ⊎ (((options : List Given) × Spells words (check options) × HasBadCheckValue (check_value options))
+    ⊎ ((steps : List ℕ) × (seed : List ℕ) × Spells words (churn steps seed) × HasBadNumber (churn_value steps seed))))))
 
 -- ---- what stands at the paths
 
--- What a run that ended so made of what stands at the paths of its world: a volume was created or served, as the values of the
--- options ask; or it was refused.
+-- What a run that ended so made of what stands at the paths of its world: a volume was created, served, collected or checked, as
+-- the values of the options ask; or it was refused. A check changes no disk, however it ends.
 pub record Reaches {D R L K : Type 0} (tells : Bool) (disk_state : D → DiskState) (receipt_state : R → ReceiptState)
     (listener_state : L → ListenerState) (coming : L → Option (List K)) (link_state : K → ConnectionState) (words : List Text)
     (report : Report) (clients : List ℕ → Option (List K)) (before after : Places) (old new : Option (List ℕ)) : Type 0 where
@@ -143,7 +176,20 @@ pub record Reaches {D R L K : Type 0} (tells : Bool) (disk_state : D → DiskSta
       old new
   pub serves_none : (options : List Given) (why : Refusal) → Spells words (serve options) → report ≡ Refused why
       → (request : ServeRequest) × AsksToServe (serve_value options) request
+      × RefusesFor tells disk_state receipt_state request.mount before after why
+  pub collects : (options : List Given) → Spells words (collect options) → report ≡ Done
+      → (request : MountRequest) × AsksToMount (collect_value options) request
+      × Collects tells disk_state receipt_state request before after old new
+  pub collects_none : (options : List Given) (why : Refusal) → Spells words (collect options) → report ≡ Refused why
+      → (request : MountRequest) × AsksToMount (collect_value options) request
       × RefusesFor tells disk_state receipt_state request before after why
+  pub checks : (options : List Given) → Spells words (check options) → (report ≡ Done) ⊎ (report ≡ Missing)
+      → (request : CheckRequest) × AsksToCheck (check_value options) request
+      × Checks tells receipt_state request before after report old new
+  pub checks_none : (options : List Given) (why : Refusal) → Spells words (check options) → report ≡ Refused why
+      → (request : CheckRequest) × AsksToCheck (check_value options) request
+      × RefusesCheck tells receipt_state request before after why
+  pub check_disks : (options : List Given) → Spells words (check options) → after.disks ≡ before.disks
 
 -- ---- faults
 

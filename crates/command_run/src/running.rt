@@ -3,7 +3,10 @@ ghost use Rattle.std.specs.Prelude.{decimal, string_bytes};
 ghost use Rattle.std.specs.Io.KnownBytes.{IsAtEnd};
 ghost use Rattle.std.specs.List.{flat_map};
 ghost use Rattle.lsvd_base.specs.declared.geometry.Geometry.{Geometry};
-ghost use Rattle.command_line.specs.CommandLine.{IsFaulty, Spells, replay, create, serve, churn};
+ghost use Rattle.command_line.specs.Check.{AreValidToCheck, check_value};
+ghost use Rattle.command_line.specs.Collect.{AreValidToCollect, collect_value};
+ghost use Rattle.command_line.specs.CommandLine.{IsFaulty, Spells, replay, create, serve, collect, check};
+ghost use Rattle.command_line.specs.CommandLine.{churn};
 ghost use Rattle.command_line.specs.Create.{AreValid, HasBadUuid, value_in};
 ghost use Rattle.command_line.specs.Options.{Given, option_words};
 ghost use Rattle.command_line.specs.Serve.{AreValidToServe, serve_value};
@@ -19,16 +22,17 @@ ghost use Rattle.volume_server.specs.Serving.{listener_told, link_told};
 use command_line::{CommandLineError, Request, request_of};
 use std::alloc::Global;
 use vol_replay::{ChurnOutcome, Outcome, churn, replay};
-use volume_commands::{Report, World, answer_create, answer_serve};
+use volume_commands::{Report, World, answer_check, answer_collect, answer_create, answer_serve};
 
 /// Runs the program on the words after its name, and answers its exit status.
 ///
 /// `replay` reads a script from `input` and writes its transcript to `out`. `create` makes a volume in a
 /// store and a disk that the world gives, and writes its uuid to `out`. `serve` serves one to the clients
 /// that the world gives, and writes to `out` what it found when they can connect, and what stands at the end.
-/// `churn` runs a script that it generates on a volume in memory, and writes its summary to `out`.
-/// A line on `err` tells each end but a good one. Words that ask for help are faulty here: `answer_help` is
-/// asked first.
+/// `collect` collects one, and writes to `out` how much was copied and removed. `check` checks what the store
+/// has of one, and writes to `out` what it found. `churn` runs a script that it generates on a volume in
+/// memory, and writes its summary to `out`. A line on `err` tells each end but a good one and that of a check
+/// that found something missing. Words that ask for help are faulty here: `answer_help` is asked first.
 pub fn run<W: World>(
     alloc: Global,
     words: &[String],
@@ -37,9 +41,9 @@ pub fn run<W: World>(
     out: &mut W::Out,
     err: &mut W::Err,
 ) -> u8
-    // 0: it is done. 3: a line is bad, or the volume is refused. 1 or 4: a fault, or memory ran out. The
-    // output and the line on the error stream say so too. What stands at the paths that the words name is
-    // what creating and serving make of what stood there.
+    // 0: it is done. 3: a line is bad, or the volume is refused, or something of it is missing. 1 or 4: a
+    // fault, or memory ran out. The output and the line on the error stream say so too. What stands at the
+    // paths that the words name is what creating, serving, collecting and checking make of what stood there.
     ensures report { (report : Report) × (result ≡ status_of report)
         × IsTold (W.Err.contents err.old) (W.Err.contents err.new) (W.Err.faults err.old)
         (W.Err.faults err.new) (line_of report)
@@ -55,8 +59,8 @@ pub fn run<W: World>(
         (record { disks = W.disk_at world.new; stores = W.store_at world.new })
         (W.Out.contents out.old) (W.Out.contents out.new) }
 
-    // The input of a script was read to its end, and the world was asked for nothing. Creating and serving
-    // read no input.
+    // The input of a script was read to its end, and the world was asked for nothing. Creating, serving,
+    // collecting and checking read no input.
     ensures end { Spells (map string_bytes words.now) replay → result ≡ 0
         → IsAtEnd (W.In.remaining input.new) }
     ensures replay_world { Spells (map string_bytes words.now) replay → world.new ≡ world.old }
@@ -64,14 +68,18 @@ pub fn run<W: World>(
         → input.new ≡ input.old }
     ensures serve_input { (options : List Given) → Spells (map string_bytes words.now) (serve options)
         → input.new ≡ input.old }
+    ensures collect_input { (options : List Given) → Spells (map string_bytes words.now) (collect options)
+        → input.new ≡ input.old }
+    ensures check_input { (options : List Given) → Spells (map string_bytes words.now) (check options)
+        → input.new ≡ input.old }
 
     // A churn reads no input either, and asks the world for nothing.
     ensures churn_alone { (steps seed : List ℕ) → Spells (map string_bytes words.now) (churn steps seed)
         → (world.new ≡ world.old) × (input.new ≡ input.old) }
 
     // 2 is for words that are refused, so never for the one word `replay`, nor for `churn` with two numbers
-    // in their limits, and for plain options of `create` or `serve` only where a text is no uuid, or a log of
-    // `create` is too short. Then nothing was read, written or made.
+    // in their limits, and for plain options of `create`, `serve`, `collect` or `check` only where a text is
+    // no uuid, or a log of `create` is too short. Then nothing was read, written or made.
     ensures usage { result ≡ 2 → AreWordsRefused (map string_bytes words.now) }
     ensures replay { map string_bytes words.now ≡ codes "replay" ∷ [] → result ≢ 2 }
     ensures valid { (options : List Given) (sizes : Geometry) → AreValid options sizes
@@ -80,6 +88,12 @@ pub fn run<W: World>(
     ensures serve_valid { (options : List Given) → AreValidToServe options
         → map string_bytes words.now ≡ codes "serve" ∷ flat_map option_words options
         → result ≡ 2 → IsNoUuid (serve_value options) (codes "volume") }
+    ensures collect_valid { (options : List Given) → AreValidToCollect options
+        → map string_bytes words.now ≡ codes "collect" ∷ flat_map option_words options
+        → result ≡ 2 → IsNoUuid (collect_value options) (codes "volume") }
+    ensures check_valid { (options : List Given) → AreValidToCheck options
+        → map string_bytes words.now ≡ codes "check" ∷ flat_map option_words options
+        → result ≡ 2 → IsNoUuid (check_value options) (codes "volume") }
     ensures churn_valid { (steps seed : ℕ) → steps ≤ 1000000 → seed < 2 ^ 64
         → map string_bytes words.now ≡ codes "churn" ∷ decimal steps ∷ decimal seed ∷ [] → result ≢ 2 }
     ensures untouched { result ≡ 2 → (world.new ≡ world.old) × (input.new ≡ input.old) × (out.new ≡ out.old) }
@@ -138,6 +152,10 @@ fn execute<W: World>(
         → input.new ≡ input.old }
     ensures serve_input { (options : List Given) → Spells (map string_bytes words.now) (serve options)
         → input.new ≡ input.old }
+    ensures collect_input { (options : List Given) → Spells (map string_bytes words.now) (collect options)
+        → input.new ≡ input.old }
+    ensures check_input { (options : List Given) → Spells (map string_bytes words.now) (check options)
+        → input.new ≡ input.old }
     ensures churn_alone { (steps seed : List ℕ) → Spells (map string_bytes words.now) (churn steps seed)
         → (world.new ≡ world.old) × (input.new ≡ input.old) }
     ensures usage { result ≡ Report.Usage → AreWordsRefused (map string_bytes words.now) }
@@ -148,6 +166,12 @@ fn execute<W: World>(
     ensures serve_valid { (options : List Given) → AreValidToServe options
         → map string_bytes words.now ≡ codes "serve" ∷ flat_map option_words options
         → result ≡ Report.Usage → IsNoUuid (serve_value options) (codes "volume") }
+    ensures collect_valid { (options : List Given) → AreValidToCollect options
+        → map string_bytes words.now ≡ codes "collect" ∷ flat_map option_words options
+        → result ≡ Report.Usage → IsNoUuid (collect_value options) (codes "volume") }
+    ensures check_valid { (options : List Given) → AreValidToCheck options
+        → map string_bytes words.now ≡ codes "check" ∷ flat_map option_words options
+        → result ≡ Report.Usage → IsNoUuid (check_value options) (codes "volume") }
     ensures churn_valid { (steps seed : ℕ) → steps ≤ 1000000 → seed < 2 ^ 64
         → map string_bytes words.now ≡ codes "churn" ∷ decimal steps ∷ decimal seed ∷ []
         → result ≢ Report.Usage }
@@ -174,6 +198,8 @@ fn execute<W: World>(
         Ok(Request::Replay) => report_of(replay(alloc, input, out)),
         Ok(Request::Create(request)) => answer_create(alloc, &request, world, out),
         Ok(Request::Serve(request)) => answer_serve(alloc, &request, world, out),
+        Ok(Request::Collect(request)) => answer_collect(alloc, &request, world, out),
+        Ok(Request::Check(request)) => answer_check(alloc, &request, world, out),
         Ok(Request::Churn(request)) => {
             report_of_churn(churn(alloc, request.steps, request.seed, out))
         }

@@ -1,18 +1,23 @@
--- What `create` and `serve` leave of a volume is whole.
-use Rattle.std.proofs.Common.{◌≡◌, ℕ, ◌+◌, List, [], length, append-nil, refl, sym, ◌∙◌, ap, subst, arith}
+-- What `create`, `serve` and `collect` leave of a volume is whole.
+use Rattle.std.proofs.Common.{◌≡◌, ℕ, ◌+◌, true, false, List, [], length, append-nil, refl, sym, ◌∙◌, ap, subst, arith}
 use Rattle.std.specs.Prelude.{Option, Some, IfSome, IsSomeAnd, Ok}
 use Rattle.lsvd_base.specs.declared.entry.Entry.{Entry}
 use Rattle.lsvd_base.specs.declared.geometry.Geometry.{Geometry}
 use Rattle.lsvd_device.specs.Device.{DiskState}
+use Rattle.lsvd_names.specs.Spelling.{IsUuid}
 use Rattle.lsvd_objstore.specs.Objects.{Objects}
 use Rattle.lsvd_objstore.specs.Store.{StoreState, ReceiptState, Becomes}
 use Rattle.commit_slot.specs.Slots.{log_of}
 use Rattle.command_line.specs.Create.{sizes_of}
+use Rattle.command_line.specs.declared.mount.MountRequest.{MountRequest}
 use Rattle.command_line.specs.declared.serve.ServeRequest.{ServeRequest}
 use Rattle.stopped_volume.specs.Device.{owner_with}
 use Rattle.stopped_volume.specs.Store.{TellsBytes}
 use Rattle.stopped_volume.specs.Super.{HasVolume}
+use Rattle.object_stream.specs.Landed.{Numbers}
+use Rattle.plain_disk.specs.declared.log.PlainCommit.{PlainCommit}
 use Rattle.plain_disk.specs.State.{PlainState, created_volume, history_length}
+use Rattle.plain_disk.specs.Stops.{mounted_from, mounted_on}
 use Rattle.plain_disk.specs.Valid.{StopKeepsAcknowledged}
 use Rattle.object_recovery.specs.Recovery.{RemovesAllPast}
 use Rattle.refine_log.specs.Fuses.{fuse_in}
@@ -20,25 +25,32 @@ use Rattle.refine_mount.specs.Mounted.{sizes_with}
 use Rattle.refine_store.specs.Laws.{LeftHasVolume}
 use Rattle.vol_core.specs.Step.{passing}
 use Rattle.vol_core.specs.Stops.{HasOwnCommits}
+use Rattle.vol_core.specs.Volume.{SteppedVolume}
 use Rattle.vol_mount.specs.Epochs.{BeginsEpoch}
+use Rattle.vol_mount.specs.Mounted.{MountedState}
 use Rattle.vol_mount.specs.Mounting.{MountsStored, MountsLeft}
 use Rattle.vol_recover.specs.Creating.{CreatedWithStore}
 use Rattle.vol_recover.specs.Mounting.{MountsKept, MountsLost}
 use Rattle.vol_recover.specs.Standing.{StandsWithStore, IsMadeWithStore, CreatedStands, MountedWithStands}
-use Rattle.vol_recover.specs.Standing.{MountedWithoutStands, StopLeavesStore, StopLeavesBoth}
+use Rattle.vol_recover.specs.Standing.{MountedWithoutStands, MayMountWith, MayMountWithout, StopLeavesStore, StopLeavesBoth}
 use Rattle.vol_recover.proofs.ForCallers.{made_kept, made_lost}
 use Rattle.volume_owner.specs.Acts.{Moment, moment_of, IsMadeOfActs}
-use Rattle.volume_owner.specs.Calls.{KeepsOtherNames}
+use Rattle.volume_owner.specs.Calls.{IsCall, IsDrained, IsLengthOf, KeepsOtherNames}
+use Rattle.volume_owner.specs.Collecting.{most_of_collection}
 use Rattle.volume_owner.specs.History.{GoesOn}
+use Rattle.volume_owner.specs.Owner.{most_of_call}
 use Rattle.volume_owner.specs.Standing.{StandAt, HasStore, KeepsStore, ActsKeepStore}
 use Rattle.volume_owner.proofs.PlainLemmas.{goes_on_nothing}
 use Rattle.volume_owner.proofs.StepLemmas.{goes_on_more}
 use Rattle.volume_server.specs.History.{Grows}
 use Rattle.volume_server.specs.Serving.{ListenerState, ConnectionState, ClientsGrow}
+use Rattle.volume_server.proofs.HistoryLemmas.{grows_nothing}
 use Rattle.volume_commands.specs.Closing.{IsLetGo}
 use Rattle.volume_commands.specs.Lasting.{IsLeftWhole, LeavesWhole, ServesWhole, CreatedIsWhole, ServedWithIsWhole}
-use Rattle.volume_commands.specs.Lasting.{ServedWithoutIsWhole}
-use Rattle.volume_commands.specs.Mounting.{MountEnds, Drains, ServesOn}
+use Rattle.volume_commands.specs.Lasting.{ServedWithoutIsWhole, CollectedWithIsWhole, CollectedWithoutIsWhole}
+use Rattle.volume_commands.specs.Collecting.{CollectsOn}
+use Rattle.volume_commands.specs.Mounting.{MountEnds}
+use Rattle.volume_commands.specs.Serving.{ServesOn}
 use Rattle.volume_commands.proofs.Whole.{drained_in_objects, is_left_whole}
 
 -- what a store has become that told its objects
@@ -80,7 +92,7 @@ pub record KeepingLaws {R : Type 0} (state : R → ReceiptState) : Type 0 where
   pub left : LeftHasVolume
   pub acts : ActsKeepStore state
 
--- ---- clients and a drain
+-- ---- a call that drains
 
 made_keeps : {R : Type 0} (state : R → ReceiptState) → ActsKeepStore state → TellsBytes state → (added : List Entry)
     (old new : Moment)
@@ -88,60 +100,79 @@ made_keeps : {R : Type 0} (state : R → ReceiptState) → ActsKeepStore state �
 made_keeps state acts_keep tells added old new made =
     subst (λ es. KeepsStore es old new) made.entered (acts_keep tells made.acts old new made.done)
 
--- a volume that stood with its store was served and drained, and was let go
-module _ {R : Type 0} (state : R → ReceiptState) (tells : TellsBytes state) (epoch : ℕ) (made : PlainState)
-    (first last closing : Moment) (objects : Objects) (told : first.store.objects ≡ Some objects)
-    (own : HasOwnCommits (owner_with first.volume.volume.objects.uploads.uuid epoch) first.volume.volume)
-    (with_store : IsMadeWithStore first.volume.volume.objects.uploads.uuid epoch made first.volume.volume objects)
-    (added : List Entry) (grows : Grows state added first last) (entries : ℕ) (drains : Drains state entries last closing)
-    (let_go : IsLetGo closing.volume) (standing : StandingLaws) (keeping : KeepingLaws state) where
-  abbrev uuid : List ℕ
-  uuid = first.volume.volume.objects.uploads.uuid
+-- a volume that was mounted stands with its store, which tells its objects, and its commits are its own
+pub record StandsMounted (uuid : List ℕ) (epoch : ℕ) (made : PlainState) (mounted : MountedState) (store : StoreState) :
+    Type 0 where
+  pub objects : Objects
+  pub told : store.objects ≡ Some objects
+  pub uuid_is : mounted.volume.volume.objects.uploads.uuid ≡ uuid
+  pub own : HasOwnCommits (owner_with uuid epoch) mounted.volume.volume
+  pub with_store : IsMadeWithStore uuid epoch made mounted.volume.volume objects
+
+-- entries were added to such a volume, a call of its owner added none and drained it, and it was let go
+module _ {R : Type 0} (state : R → ReceiptState) (tells : TellsBytes state) (uuid : List ℕ) (epoch : ℕ) (made : PlainState)
+    (mounted : MountedState) (mid : StoreState) (stands : StandsMounted uuid epoch made mounted mid) (added : List Entry)
+    (last : Moment) (grows : Grows state added (moment_of mounted.volume mid) last) (closing : SteppedVolume)
+    (store_left : StoreState) (disk_left : DiskState) (most : ℕ)
+    (call : IsCall state most [] false last.volume closing last.store store_left) (drained : IsDrained closing.volume)
+    (let_go : IsLetGo closing) (disk_is : disk_left ≡ closing.volume.log.commits.disk) (standing : StandingLaws)
+    (keeping : KeepingLaws state) where
+  abbrev first : Moment
+  first = moment_of mounted.volume mid
 
   abbrev shown : PlainState
-  shown = passing (fuse_in first.volume.volume.log.commits.disk.budget) made
+  shown = passing (fuse_in mounted.volume.volume.log.commits.disk.budget) made
 
   has_store : HasStore epoch first shown
-  has_store = subst (λ (o : Option Objects). IfSome o (StandAt epoch first shown)) (sym told) with_store.stands
+  has_store =
+      let its_store : StandsWithStore first.volume.volume.objects.uploads.uuid epoch shown first.volume.volume stands.objects =
+      subst (λ (u : List ℕ). StandsWithStore u epoch shown first.volume.volume stands.objects) (sym stands.uuid_is)
+      stands.with_store in
+      subst (λ (o : Option Objects). IfSome o (StandAt epoch first shown)) (sym stands.told) its_store.stands
 
-  same_uuid : closing.volume.volume.objects.uploads.uuid ≡ uuid
-  same_uuid = drains.calls.steps.sizes.uuid ∙ grows.sizes.uuid
+  same_uuid : closing.volume.objects.uploads.uuid ≡ uuid
+  same_uuid = call.steps.sizes.uuid ∙ grows.sizes.uuid ∙ stands.uuid_is
 
-  pub serves_whole : (whole : LeavesWhole (owner_with uuid epoch) added made closing.store.objects
-      closing.volume.volume.log.commits.disk)
-      × (entries ≡ history_length whole.after)
-  serves_whole =
-      let (middle, middle_shows, middle_goes, middle_stands) = grows.stands tells shown with_store.shows in
+  own_now : HasOwnCommits (owner_with closing.volume.objects.uploads.uuid epoch) closing.volume
+  own_now =
+      subst (λ (u : List ℕ). HasOwnCommits (owner_with u epoch) closing.volume) (sym same_uuid)
+      (call.steps.own (owner_with uuid epoch) (grows.own (owner_with uuid epoch) stands.own))
+
+  pub leaves_whole : (whole : LeavesWhole (owner_with uuid epoch) added made store_left.objects disk_left)
+      × ((count : ℕ) → IsLengthOf count last.volume.volume → count ≡ history_length whole.after)
+  leaves_whole =
+      let (middle, middle_shows, middle_goes, middle_stands) = grows.stands tells shown stands.with_store.shows in
       let (after, shows, goes, stands_after) =
-      made_keeps state keeping.acts tells [] last closing drains.calls.acts middle middle_shows in
+      made_keeps state keeping.acts tells [] last (moment_of closing store_left) call.acts middle middle_shows in
       let goes_on : GoesOn added shown after =
       subst (λ es. GoesOn es shown after) (append-nil added) (goes_on_more added [] shown middle after middle_goes goes) in
-      let mid = told_after (KeepsOtherNames uuid) first.store.objects last.store.objects objects told grows.store in
+      let then =
+      told_after (KeepsOtherNames first.volume.volume.objects.uploads.uuid) mid.objects last.store.objects stands.objects
+      stands.told grows.store in
       let left =
-      told_after (KeepsOtherNames last.volume.volume.objects.uploads.uuid) last.store.objects closing.store.objects mid.0 mid.1
-      drains.calls.store in
-      let stands : StandAt epoch closing after left.0 =
-      subst (λ (o : Option Objects). IfSome o (StandAt epoch closing after)) left.1
+      told_after (KeepsOtherNames last.volume.volume.objects.uploads.uuid) last.store.objects store_left.objects then.0 then.1
+      call.store in
+      let stands_left : StandAt epoch (moment_of closing store_left) after left.0 =
+      subst (λ (o : Option Objects). IfSome o (StandAt epoch (moment_of closing store_left) after)) left.1
       (stands_after epoch (middle_stands epoch has_store)) in
-      let its_uuid : List ℕ = closing.volume.volume.objects.uploads.uuid in
-      let stands_now : StandsWithStore its_uuid epoch after closing.volume.volume left.0 =
-      record { shows = shows; stands = stands } in
-      let own_now : HasOwnCommits (owner_with its_uuid epoch) closing.volume.volume =
-      subst (λ (u : List ℕ). HasOwnCommits (owner_with u epoch) closing.volume.volume) (sym same_uuid)
-      (drains.calls.steps.own (owner_with uuid epoch) (grows.own (owner_with uuid epoch) own)) in
+      let its_uuid : List ℕ = closing.volume.objects.uploads.uuid in
+      let stands_now : StandsWithStore its_uuid epoch after closing.volume left.0 =
+      record { shows = shows; stands = stands_left } in
       let in_objects =
-      drained_in_objects keeping.kept keeping.left its_uuid epoch after closing.volume.volume left.0 stands_now drains.drained in
-      let disk : DiskState = closing.volume.volume.log.commits.disk in (
+      drained_in_objects keeping.kept keeping.left its_uuid epoch after closing.volume left.0 stands_now drained in
+      let whole =
+      is_left_whole standing.store standing.both closing epoch after left.0 let_go own_now stands_now in_objects in (
         record {
           after = after;
-          goes_on = goes_on_from added first.volume.volume.log.commits.disk made after goes_on;
+          goes_on = goes_on_from added mounted.volume.volume.log.commits.disk made after goes_on;
           left = left.0;
           told = left.1;
           whole =
-              subst (λ (u : List ℕ). IsLeftWhole (owner_with u epoch) after left.0 disk) same_uuid
-              (is_left_whole standing.store standing.both closing.volume epoch after left.0 let_go own_now stands_now in_objects);
+              subst (λ (d : DiskState). IsLeftWhole (owner_with uuid epoch) after left.0 d) (sym disk_is)
+              (subst (λ (u : List ℕ). IsLeftWhole (owner_with u epoch) after left.0 closing.volume.log.commits.disk) same_uuid
+              whole);
         },
-        drains.count middle middle_shows ∙ same_length middle after goes,
+        λ count is_length. is_length middle middle_shows ∙ same_length middle after goes,
       )
 
 -- ---- a run of `create`
@@ -174,82 +205,49 @@ created_is_whole standing request uuid disk disk_left before after new_to create
           (subst (λ (u : List ℕ). IsLeftWhole (owner_with u 0) shown left volume.log.commits.disk) created.uuid_is whole);
     }
 
--- ---- a run of `serve`
+-- ---- mounts
 
-module _ {D R L K : Type 0} (disk_state : D → DiskState) (receipt_state : R → ReceiptState) (listener_state : L → ListenerState)
-    (coming : L → Option (List K)) (link_state : K → ConnectionState) (grow : ClientsGrow receipt_state link_state)
-    (standing : StandingLaws) (keeping : KeepingLaws receipt_state) where
-  module _ (request : ServeRequest) (links : Option (List K)) (disk disk_left : DiskState) (store store_left : StoreState)
-      (old new : Option (List ℕ))
-      (serves : ServesOn disk_state receipt_state listener_state coming link_state request links disk disk_left store store_left
-      old new) where
-    -- what clients and a drain make of the volume that was mounted
-    served_is_whole : TellsBytes receipt_state → (epoch : ℕ) (made : PlainState) (objects : Objects)
-        → serves.mid.objects ≡ Some objects
-        → serves.mounted.volume.volume.objects.uploads.uuid ≡ request.volume
-        → HasOwnCommits (owner_with request.volume epoch) serves.mounted.volume.volume
-        → IsMadeWithStore request.volume epoch made serves.mounted.volume.volume objects
-        → ServesWhole serves epoch made
-    served_is_whole tells epoch made objects told uuid_is own with_store =
-        let by = serves.serves in
-        let volume = serves.mounted.volume.volume in
-        let first : Moment = moment_of serves.mounted.volume serves.mid in
-        let grown = grow by.lane.served links (coming by.after) first by.last by.served in
-        let added : List Entry = grown.0.0 in
-        let its_store : IsMadeWithStore volume.objects.uploads.uuid epoch made volume objects =
-        subst (λ u. IsMadeWithStore u epoch made volume objects) (sym uuid_is) with_store in
-        let its_own : HasOwnCommits (owner_with volume.objects.uploads.uuid epoch) volume =
-        subst (λ (u : List ℕ). HasOwnCommits (owner_with u epoch) volume) (sym uuid_is) own in
-        let whole =
-        serves_whole receipt_state tells epoch made first by.last (moment_of serves.closing store_left) objects told its_own
-        its_store added grown.0.1 by.entries by.drains serves.let_go standing keeping in
-        let leaves = whole.0 in
-        let disk_is : serves.closing.volume.log.commits.disk ≡ disk_left = sym serves.disk_is in
-        record {
-          added = added;
-          grows = grown.0.1;
-          leaves = record {
-            after = leaves.after;
-            goes_on = leaves.goes_on;
-            left = leaves.left;
-            told = leaves.told;
-            whole =
-                subst (λ (d : DiskState). IsLeftWhole (owner_with request.volume epoch) leaves.after leaves.left d) disk_is
-                (subst (λ (u : List ℕ). IsLeftWhole (owner_with u epoch) leaves.after leaves.left
-                serves.closing.volume.log.commits.disk) uuid_is leaves.whole);
-          };
-          count = whole.1;
-        }
-
-  pub served_with_is_whole : ServedWithIsWhole disk_state receipt_state listener_state coming link_state
-  served_with_is_whole request links disk disk_left store store_left old new epoch plain found landed objects tells is_uuid kept
-      told log_is may serves =
+-- where disk and store may be mounted with each other, or the store alone, what is mounted stands with the store that is left
+module _ {D R : Type 0} (disk_state : D → DiskState) (receipt_state : R → ReceiptState) (standing : StandingLaws)
+    (tells : TellsBytes receipt_state) (request : MountRequest) (is_uuid : IsUuid request.volume) (disk : DiskState)
+    (store mid : StoreState) (mounted : MountedState)
+    (ends : MountEnds disk_state receipt_state request.is_lost request.volume disk store mid (Ok mounted)) (epoch : ℕ)
+    (plain : PlainState) (landed : Numbers) (objects : Objects) (told : store.objects ≡ Some objects) where
+  stands_with : (found : PlainCommit) → request.is_lost ≡ false → plain.geometry.log ≡ log_of disk.size
+      → MayMountWith (owner_with request.volume epoch) plain found landed objects disk
+      → StandsMounted request.volume epoch (mounted_from landed found plain) mounted mid
+  stands_with found kept log_is may =
       let uuid : List ℕ = request.volume in
-      let ends : MountsKept disk_state (TellsBytes receipt_state) uuid disk store serves.mid (Ok serves.mounted) =
-      subst (λ b. MountEnds disk_state receipt_state b uuid disk store serves.mid (Ok serves.mounted)) kept serves.mounts in
-      let mount = made_kept disk_state (TellsBytes receipt_state) uuid disk store serves.mid serves.mounted ends in
+      let ends_kept : MountsKept disk_state (TellsBytes receipt_state) uuid disk store mid (Ok mounted) =
+      subst (λ b. MountEnds disk_state receipt_state b uuid disk store mid (Ok mounted)) kept ends in
+      let mount = made_kept disk_state (TellsBytes receipt_state) uuid disk store mid mounted ends_kept in
       let has : IsSomeAnd store.objects (HasVolume uuid plain.geometry epoch) =
       subst (λ (o : Option Objects). IsSomeAnd o (HasVolume uuid plain.geometry epoch)) (sym told) may.volume.described in
       let volume = mount.volume tells plain.geometry epoch log_is has in
-      let mounts : MountsLeft (owner_with uuid epoch) plain.geometry (Some objects) disk serves.mounted =
-      subst (λ (o : Option Objects). MountsLeft (owner_with uuid epoch) plain.geometry o disk serves.mounted) told
+      let mounts : MountsLeft (owner_with uuid epoch) plain.geometry (Some objects) disk mounted =
+      subst (λ (o : Option Objects). MountsLeft (owner_with uuid epoch) plain.geometry o disk mounted) told
       (mount.mounts tells plain.geometry epoch log_is has) in
       let (left, left_told, removed) =
-      told_after (RemovesAllPast uuid serves.mounted.number) store.objects serves.mid.objects objects told mount.removed in
-      served_is_whole request links disk disk_left store store_left old new serves tells epoch _ left left_told volume.uuid_is
-      volume.own
-      (standing.with_cache (owner_with uuid epoch) plain found landed objects left disk serves.mounted is_uuid may mounts volume
-      removed)
+      told_after (RemovesAllPast uuid mounted.number) store.objects mid.objects objects told mount.removed in
+      record {
+        objects = left;
+        told = left_told;
+        uuid_is = volume.uuid_is;
+        own = volume.own;
+        with_store =
+            standing.with_cache (owner_with uuid epoch) plain found landed objects left disk mounted is_uuid may mounts volume
+            removed;
+      }
 
-  pub served_without_is_whole : ServedWithoutIsWhole disk_state receipt_state listener_state coming link_state
-  served_without_is_whole request links disk disk_left store store_left old new epoch plain landed objects tells is_uuid lost told
-      may serves =
+  stands_without : request.is_lost ≡ true → MayMountWithout request.volume (log_of disk.size) epoch plain landed objects
+      → StandsMounted request.volume (epoch + 1) (mounted_on (log_of disk.size) landed plain) mounted mid
+  stands_without lost may =
       let uuid : List ℕ = request.volume in
       let log : ℕ = log_of disk.size in
       let sizes : Geometry = sizes_with log plain.geometry in
-      let ends : MountsLost disk_state (TellsBytes receipt_state) uuid disk store serves.mid (Ok serves.mounted) =
-      subst (λ b. MountEnds disk_state receipt_state b uuid disk store serves.mid (Ok serves.mounted)) lost serves.mounts in
-      let mount = made_lost disk_state (TellsBytes receipt_state) uuid disk store serves.mid serves.mounted ends in
+      let ends_lost : MountsLost disk_state (TellsBytes receipt_state) uuid disk store mid (Ok mounted) =
+      subst (λ b. MountEnds disk_state receipt_state b uuid disk store mid (Ok mounted)) lost ends in
+      let mount = made_lost disk_state (TellsBytes receipt_state) uuid disk store mid mounted ends_lost in
       let described = may.volume.described in
       let resized : HasVolume uuid sizes epoch objects =
       record {
@@ -264,11 +262,91 @@ module _ {D R L K : Type 0} (disk_state : D → DiskState) (receipt_state : R �
       let has : IsSomeAnd store.objects (HasVolume uuid sizes epoch) =
       subst (λ (o : Option Objects). IsSomeAnd o (HasVolume uuid sizes epoch)) (sym told) resized in
       let volume = mount.volume tells sizes epoch refl has in
-      let mounts : MountsStored uuid sizes (Some objects) serves.mounted =
-      subst (λ (o : Option Objects). MountsStored uuid sizes o serves.mounted) told (mount.mounts tells sizes epoch refl has) in
+      let mounts : MountsStored uuid sizes (Some objects) mounted =
+      subst (λ (o : Option Objects). MountsStored uuid sizes o mounted) told (mount.mounts tells sizes epoch refl has) in
       let (left, left_told, begins) =
-      told_after (BeginsEpoch uuid serves.mounted.number (epoch + 1)) store.objects serves.mid.objects objects told
+      told_after (BeginsEpoch uuid mounted.number (epoch + 1)) store.objects mid.objects objects told
       (mount.begun tells sizes epoch refl has) in
-      served_is_whole request links disk disk_left store store_left old new serves tells (epoch + 1) _ left left_told
-      volume.uuid_is volume.own
-      (standing.without uuid log epoch plain landed objects left serves.mounted is_uuid may mounts volume begins)
+      record {
+        objects = left;
+        told = left_told;
+        uuid_is = volume.uuid_is;
+        own = volume.own;
+        with_store =
+            standing.without uuid log epoch plain landed objects left mounted is_uuid may mounts volume begins;
+      }
+
+-- ---- a run of `serve`
+
+module _ {D R L K : Type 0} (disk_state : D → DiskState) (receipt_state : R → ReceiptState) (listener_state : L → ListenerState)
+    (coming : L → Option (List K)) (link_state : K → ConnectionState) (grow : ClientsGrow receipt_state link_state)
+    (standing : StandingLaws) (keeping : KeepingLaws receipt_state) where
+  module _ (request : ServeRequest) (links : Option (List K)) (disk disk_left : DiskState) (store store_left : StoreState)
+      (old new : Option (List ℕ))
+      (serves : ServesOn disk_state receipt_state listener_state coming link_state request links disk disk_left store store_left
+      old new) where
+    -- what clients and a drain make of the volume that was mounted
+    served_is_whole : TellsBytes receipt_state → (epoch : ℕ) (made : PlainState)
+        → StandsMounted request.mount.volume epoch made serves.mounted serves.mid → ServesWhole request serves epoch made
+    served_is_whole tells epoch made stands =
+        let by = serves.does in
+        let first : Moment = moment_of serves.mounted.volume serves.mid in
+        let grown = grow by.lane.served links (coming by.after) first by.last by.served in
+        let added : List Entry = grown.0.0 in
+        let whole =
+        leaves_whole receipt_state tells request.mount.volume epoch made serves.mounted serves.mid stands added by.last
+        grown.0.1 serves.closing store_left disk_left most_of_call by.drains.calls by.drains.drained serves.let_go
+        serves.disk_is standing keeping in
+        record {
+          added = added;
+          grows = grown.0.1;
+          leaves = whole.0;
+          count = whole.1 by.entries by.drains.count;
+        }
+
+  pub served_with_is_whole : ServedWithIsWhole disk_state receipt_state listener_state coming link_state
+  served_with_is_whole request links disk disk_left store store_left old new epoch plain found landed objects tells is_uuid kept
+      told log_is may serves =
+      served_is_whole request links disk disk_left store store_left old new serves tells epoch _
+      (stands_with disk_state receipt_state standing tells request.mount is_uuid disk store serves.mid serves.mounted
+      serves.mounts epoch plain landed objects told found kept log_is may)
+
+  pub served_without_is_whole : ServedWithoutIsWhole disk_state receipt_state listener_state coming link_state
+  served_without_is_whole request links disk disk_left store store_left old new epoch plain landed objects tells is_uuid lost told
+      may serves =
+      served_is_whole request links disk disk_left store store_left old new serves tells (epoch + 1) _
+      (stands_without disk_state receipt_state standing tells request.mount is_uuid disk store serves.mid serves.mounted
+      serves.mounts epoch plain landed objects told lost may)
+
+-- ---- a run of `collect`
+
+module _ {D R : Type 0} (disk_state : D → DiskState) (receipt_state : R → ReceiptState) (standing : StandingLaws)
+    (keeping : KeepingLaws receipt_state) where
+  module _ (request : MountRequest) (disk disk_left : DiskState) (store store_left : StoreState) (old new : Option (List ℕ))
+      (collects : CollectsOn disk_state receipt_state request disk disk_left store store_left old new) where
+    -- what a whole collection makes of the volume that was mounted
+    collected_is_whole : TellsBytes receipt_state → (epoch : ℕ) (made : PlainState)
+        → StandsMounted request.volume epoch made collects.mounted collects.mid
+        → LeavesWhole (owner_with request.volume epoch) [] made store_left.objects disk_left
+    collected_is_whole tells epoch made stands =
+        let all = collects.does.collects in
+        let first : Moment = moment_of collects.mounted.volume collects.mid in
+        let whole =
+        leaves_whole receipt_state tells request.volume epoch made collects.mounted collects.mid stands [] first
+        (grows_nothing receipt_state first) collects.closing store_left disk_left most_of_collection all.call all.drained
+        collects.let_go collects.disk_is standing keeping in
+        whole.0
+
+  pub collected_with_is_whole : CollectedWithIsWhole disk_state receipt_state
+  collected_with_is_whole request disk disk_left store store_left old new epoch plain found landed objects tells is_uuid kept told
+      log_is may collects =
+      collected_is_whole request disk disk_left store store_left old new collects tells epoch _
+      (stands_with disk_state receipt_state standing tells request is_uuid disk store collects.mid collects.mounted
+      collects.mounts epoch plain landed objects told found kept log_is may)
+
+  pub collected_without_is_whole : CollectedWithoutIsWhole disk_state receipt_state
+  collected_without_is_whole request disk disk_left store store_left old new epoch plain landed objects tells is_uuid lost told
+      may collects =
+      collected_is_whole request disk disk_left store store_left old new collects tells (epoch + 1) _
+      (stands_without disk_state receipt_state standing tells request is_uuid disk store collects.mid collects.mounted
+      collects.mounts epoch plain landed objects told lost may)

@@ -1,7 +1,9 @@
+mod Checked
+mod Collected
 mod Created
 mod Lasting
 mod Mounts
 mod Places
 mod Served
-pub mod Told
+mod Told
 mod Whole

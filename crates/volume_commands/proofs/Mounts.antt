@@ -1,4 +1,4 @@
--- What a mount of `serve` made or left, with the cache or without it.
+-- What a mount made or left, with the cache or without it.
 use Rattle.std.proofs.Common.{◌≡◌, ℕ, List, Bool, true, false, ap}
 use Rattle.std.specs.Prelude.{Ok, Err}
 use Rattle.lsvd_device.specs.Device.{DiskState}

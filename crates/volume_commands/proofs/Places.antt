@@ -1,58 +1,43 @@
 -- What was lent of the places of a world, and what stands there when it was given back.
-use Rattle.std.proofs.Common.{◌≡◌, ℕ, List, Bool, subst, sym}
+use Rattle.std.proofs.Common.{◌≡◌, Bool, subst, sym}
 use Rattle.std.specs.Prelude.{Option, OnOk, Result, Ok, Err}
 use Rattle.lsvd_device.specs.Device.{DiskState}
 use Rattle.lsvd_objstore.specs.Store.{StoreState, ReceiptState}
-use Rattle.command_line.specs.declared.serve.ServeRequest.{ServeRequest}
-use Rattle.volume_server.specs.Serving.{ListenerState, ConnectionState}
+use Rattle.command_line.specs.declared.mount.MountRequest.{MountRequest}
 use Rattle.volume_commands.specs.declared.error.CommandError.{CommandError}
 use Rattle.refusals.specs.declared.refusal.Refusal.{Refusal}
-use Rattle.volume_commands.specs.Mounting.{RefusesIn, ServesOn, ServesCache}
+use Rattle.volume_commands.specs.Mounting.{RefusesIn, MountedRelation, WorksOn, WorksIn}
 
 -- what follows of something that a command has done follows where it has done it
 pub on_done : {P Q : Type 0} (result : Result (Unit {0}) CommandError) → (P → Q) → OnOk result P → OnOk result Q
 on_done (Ok done) then is = then is
 on_done (Err error) then is = tt
 
--- served so of a store that is the same, to the same clients
-pub serves_from : {D R L K : Type 0} (disk_state : D → DiskState) (receipt_state : R → ReceiptState)
-    (listener_state : L → ListenerState) (coming : L → Option (List K)) (link_state : K → ConnectionState)
-    (request : ServeRequest) (came links : Option (List K)) (disk disk_left : DiskState) (first store store_left : StoreState)
-    (old new : Option (List ℕ)) → came ≡ links → first ≡ store
-    → ServesOn disk_state receipt_state listener_state coming link_state request came disk disk_left first store_left old new
-    → ServesOn disk_state receipt_state listener_state coming link_state request links disk disk_left store store_left old new
-serves_from {D} {R} {L} {K} disk_state receipt_state listener_state coming link_state request came links disk disk_left first
-    store store_left old new same stays serves =
-    subst (λ (l : Option (List K)).
-    ServesOn disk_state receipt_state listener_state coming link_state request l disk disk_left store store_left old new) same
-    (subst (λ (s : StoreState).
-    ServesOn disk_state receipt_state listener_state coming link_state request came disk disk_left s store_left old new) stays
-    serves)
+-- a command does with a volume what it does of the same thing, as a world tells that, and of a store that is the same
+pub works_from : {C D R : Type 0} (disk_state : D → DiskState) (receipt_state : R → ReceiptState) (request : MountRequest)
+    (Does : C → MountedRelation) (came told : C) (disk disk_left : DiskState) (first store store_left : StoreState) → came ≡ told
+    → first ≡ store → WorksOn disk_state receipt_state request (Does came) disk disk_left first store_left
+    → WorksOn disk_state receipt_state request (Does told) disk disk_left store store_left
+works_from {C} disk_state receipt_state request Does came told disk disk_left first store store_left same stays works =
+    subst (λ (t : C). WorksOn disk_state receipt_state request (Does t) disk disk_left store store_left) same
+    (subst (λ (s : StoreState). WorksOn disk_state receipt_state request (Does came) disk disk_left s store_left) stays works)
 
--- ---- served and refused, where other calls of the world came before and after that changed nothing of the cache
+-- ---- done and refused, where other calls of the world came before and after that changed nothing of the cache
 
-pub serves_between : {D R L K : Type 0} (tells : Bool) (disk_state : D → DiskState) (receipt_state : R → ReceiptState)
-    (listener_state : L → ListenerState) (coming : L → Option (List K)) (link_state : K → ConnectionState)
-    (request : ServeRequest) (came links : Option (List K)) (first stood stands last : Option DiskState)
-    (store store_left : StoreState) (old new : Option (List ℕ)) → came ≡ links → stood ≡ first → last ≡ stands
-    → ServesCache tells disk_state receipt_state listener_state coming link_state request came stood stands store store_left
-    old new
-    → ServesCache tells disk_state receipt_state listener_state coming link_state request links first last store store_left
-    old new
-serves_between tells disk_state receipt_state listener_state coming link_state request came links first stood stands last store
-    store_left old new same before after serves =
-    subst (λ (l : Option (List _)).
-    ServesCache tells disk_state receipt_state listener_state coming link_state request l first last store store_left old new)
-    same
-    (subst (λ (d : Option DiskState).
-    ServesCache tells disk_state receipt_state listener_state coming link_state request came d last store store_left old new)
-    before
-    (subst (λ (d : Option DiskState).
-    ServesCache tells disk_state receipt_state listener_state coming link_state request came stood d store store_left old new)
-    (sym after) serves))
+pub works_between : {C D R : Type 0} (tells : Bool) (disk_state : D → DiskState) (receipt_state : R → ReceiptState)
+    (request : MountRequest) (Does : C → MountedRelation) (came told : C) (first stood stands last : Option DiskState)
+    (store store_left : StoreState) → came ≡ told → stood ≡ first → last ≡ stands
+    → WorksIn tells disk_state receipt_state request (Does came) stood stands store store_left
+    → WorksIn tells disk_state receipt_state request (Does told) first last store store_left
+works_between {C} tells disk_state receipt_state request Does came told first stood stands last store store_left same before
+    after works =
+    subst (λ (t : C). WorksIn tells disk_state receipt_state request (Does t) first last store store_left) same
+    (subst (λ (d : Option DiskState). WorksIn tells disk_state receipt_state request (Does came) d last store store_left) before
+    (subst (λ (d : Option DiskState). WorksIn tells disk_state receipt_state request (Does came) stood d store store_left)
+    (sym after) works))
 
 pub refuses_between : {D R : Type 0} (tells : Bool) (disk_state : D → DiskState) (receipt_state : R → ReceiptState)
-    (request : ServeRequest) (first stood stands last : Option DiskState) (store store_left : StoreState) (why : Refusal)
+    (request : MountRequest) (first stood stands last : Option DiskState) (store store_left : StoreState) (why : Refusal)
     → stood ≡ first → last ≡ stands
     → RefusesIn tells disk_state receipt_state request stood stands store store_left why
     → RefusesIn tells disk_state receipt_state request first last store store_left why

@@ -34,8 +34,7 @@ use Rattle.volume_commands.specs.Creating.{of_world}
 use Rattle.volume_commands.specs.declared.world.WorldError.{WorldError}
 use Rattle.volume_commands.specs.declared.world.WorldError.TheVariants as worlds
 use Rattle.volume_commands.specs.declared.report.Report.TheVariants as reports
-use Rattle.volume_commands.specs.Mounting.{Drains}
-use Rattle.volume_commands.specs.Serving.{of_mount, of_owner, judged}
+use Rattle.volume_commands.specs.Serving.{Drains, of_mount, of_owner, judged}
 use Rattle.volume_commands.specs.World.{IsConstant, world_failed}
 
 -- a count that is one number does not rise
@@ -141,32 +140,36 @@ pub mounted_has_room : (uuid : List ℕ) (log : ℕ) (mounted : MountedState) �
     → mounted.volume.steps ≤ most_steps
 mounted_has_room uuid log mounted (geometry, epoch, log_is, limits, is) = (let steps = is.steps in omega (arith, steps))
 
--- ---- a drain
+-- ---- calls of the owner
 
-pub drain_refuses_none : (error : OwnerError) (why : Refusal) → of_owner error ≡ errors.Refused why → ⊥
-drain_refuses_none owners.Range why is = let bad : ⊥ = cc in bad
-drain_refuses_none owners.Eio why is = let bad : ⊥ = cc in bad
-drain_refuses_none owners.OutOfMemory why is = let bad : ⊥ = cc in bad
+pub owner_refuses_none : (error : OwnerError) (why : Refusal) → of_owner error ≡ errors.Refused why → ⊥
+owner_refuses_none owners.Range why is = let bad : ⊥ = cc in bad
+owner_refuses_none owners.Eio why is = let bad : ⊥ = cc in bad
+owner_refuses_none owners.OutOfMemory why is = let bad : ⊥ = cc in bad
 
-pub drain_counts_none : {D S : Type 0} (disk_faults : D → ℕ) (store_faults : S → ℕ) (first last : D) (old new : S)
+-- of a call that answers a T
+pub owner_counts_none : (T : Type 0) {D S : Type 0} (disk_faults : D → ℕ) (store_faults : S → ℕ) (first last : D) (old new : S)
     (error : OwnerError)
     (first_count last_count : ℕ) → disk_faults first ≡ first_count → disk_faults last ≡ last_count
-    → (IsErrOf {T = Drained} (Err error) owners.Range → ⊥)
-    → CountsEitherFault (is_eio {T = Drained} (Err error)) first_count last_count (store_faults old) (store_faults new)
+    → (IsErrOf {T = T} (Err error) owners.Range → ⊥)
+    → CountsEitherFault (is_eio {T = T} (Err error)) first_count last_count (store_faults old) (store_faults new)
     → of_owner error ≡ errors.Fault
     → IsConstant disk_faults → IsConstant store_faults → ⊥
-drain_counts_none disk_faults store_faults first last old new owners.Range n m is_first is_last no_range counted is disks stores =
+owner_counts_none T disk_faults store_faults first last old new owners.Range n m is_first is_last no_range counted is disks
+    stores =
     no_range refl
-drain_counts_none disk_faults store_faults first last old new owners.Eio n m is_first is_last no_range (inl counted) is
+owner_counts_none T disk_faults store_faults first last old new owners.Eio n m is_first is_last no_range (inl counted) is
     disks stores =
     stands_still disk_faults first last disks
     (subst (λ a. CountsOne a (disk_faults last)) (sym is_first) (subst (λ b. CountsOne n b) (sym is_last) counted.0))
-drain_counts_none disk_faults store_faults first last old new owners.Eio n m is_first is_last no_range (inr counted) is
+owner_counts_none T disk_faults store_faults first last old new owners.Eio n m is_first is_last no_range (inr counted) is
     disks stores =
     stands_still store_faults old new stores counted.1
-drain_counts_none disk_faults store_faults first last old new owners.OutOfMemory n m is_first is_last no_range counted is
+owner_counts_none T disk_faults store_faults first last old new owners.OutOfMemory n m is_first is_last no_range counted is
     disks stores =
     let bad : ⊥ = cc in bad
+
+-- ---- a drain
 
 -- a history that nothing is added to has the length that it has then
 length_stays : (count : ℕ) (old new : VolumeState) → Adds [] old new → IsLengthOf count new → IsLengthOf count old

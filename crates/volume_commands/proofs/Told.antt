@@ -1,6 +1,6 @@
--- What a server has told, by how far it came.
-use Rattle.std.proofs.Common.{arith, ◌≡◌, ℕ, ◌+◌, List, length, take, length-append, refl, sym, subst}
-use Rattle.std.proofs.KnownBytes.{Appends-nil, Appends-trans}
+-- What a command has told, by how far it came.
+use Rattle.std.proofs.Common.{arith, ◌≡◌, ℕ, ◌+◌, List, length, take, length-append, refl, sym, subst, inl, inr}
+use Rattle.std.proofs.KnownBytes.{Appends-trans}
 use Rattle.std.proofs.lemmas.List.{take-append-le}
 use Rattle.std.proofs.Math.Seq.{take-append-add, take-append_seam, take-length}
 use Rattle.std.specs.Io.KnownBytes.{Appends}
@@ -16,28 +16,28 @@ use Rattle.volume_server.specs.declared.serving.LaneEnd.TheVariants as lanes
 use Rattle.volume_commands.specs.declared.error.CommandError.{CommandError}
 use Rattle.volume_commands.specs.declared.error.CommandError.TheVariants as errors
 use Rattle.refusals.specs.declared.refusal.Refusal.{Refusal}
-use Rattle.volume_commands.specs.Mounting.{Drains, ServesMounted}
-use Rattle.volume_commands.specs.Serving.{mounted_line, writes_line, serving_text, AppendsFront, IsServingFront, TellsServed}
-use Rattle.volume_commands.specs.Serving.{judged}
+use Rattle.volume_commands.specs.Output.{AppendsFront, AppendsFrontOf, TellsEnd}
+use Rattle.volume_commands.specs.Serving.{Drains, ServesMounted, IsServingText, mounted_line, writes_line, serving_text, judged}
 
--- nothing is a front of what a server tells
-pub nothing_told : (old : Option (List ℕ)) → IsServingFront old old
-nothing_told old = (0, 0, 0, (0, omega arith, Appends-nil old))
+-- ---- any command
 
-pub nothing_served : (error : CommandError) (old : Option (List ℕ)) → TellsServed (Err error) old old
-nothing_served (errors.Refused why) old = refl
-nothing_served errors.Fault old = nothing_told old
-nothing_served errors.OutOfMemory old = nothing_told old
+-- a command that told nothing ends by any error
+pub nothing_told : (IsText : List ℕ → Type 0) (error : CommandError) (old : Option (List ℕ)) → TellsEnd IsText (Err error) old old
+nothing_told IsText (errors.Refused why) old = refl
+nothing_told IsText errors.Fault old = inl refl
+nothing_told IsText errors.OutOfMemory old = inl refl
+
+-- ---- a server
 
 -- a front of the first line
 pub first_broken : (kept number : ℕ) (old new : Option (List ℕ)) → AppendsFront (mounted_line kept number) old new
-    → TellsServed (Err errors.Fault) old new
+    → TellsEnd IsServingText (Err errors.Fault) old new
 first_broken kept number old new front =
     let a = mounted_line kept number in
-    let b = writes_line 0 in (
-      kept,
-      number,
-      0,
+    let b = writes_line 0 in
+    inr (
+      serving_text kept number 0,
+      (kept, number, 0, refl),
       (
         front.0,
         omega (arith, front.1, length-append a b),
@@ -47,13 +47,13 @@ first_broken kept number old new front =
 
 -- the first line alone
 pub first_told : (kept number : ℕ) (old new : Option (List ℕ)) → Appends old new (mounted_line kept number)
-    → IsServingFront old new
+    → AppendsFrontOf IsServingText old new
 first_told kept number old new told =
     let a = mounted_line kept number in
-    let b = writes_line 0 in (
-      kept,
-      number,
-      0,
+    let b = writes_line 0 in
+    inr (
+      serving_text kept number 0,
+      (kept, number, 0, refl),
       (
         length a,
         omega (arith, length-append a b),
@@ -64,20 +64,20 @@ first_told kept number old new told =
 -- the first line, before the server ended by an error
 pub only_first : (kept number : ℕ) (error : CommandError) (old new : Option (List ℕ))
     → ((why : Refusal) → error ≡ errors.Refused why → ⊥)
-    → Appends old new (mounted_line kept number) → TellsServed (Err error) old new
+    → Appends old new (mounted_line kept number) → TellsEnd IsServingText (Err error) old new
 only_first kept number (errors.Refused why) old new not_refused told = absurd (not_refused why refl)
 only_first kept number errors.Fault old new not_refused told = first_told kept number old new told
 only_first kept number errors.OutOfMemory old new not_refused told = first_told kept number old new told
 
 -- a front of the second line after it
 pub second_broken : (kept number entries : ℕ) (old mid new : Option (List ℕ)) → Appends old mid (mounted_line kept number)
-    → AppendsFront (writes_line entries) mid new → TellsServed (Err errors.Fault) old new
+    → AppendsFront (writes_line entries) mid new → TellsEnd IsServingText (Err errors.Fault) old new
 second_broken kept number entries old mid new first front =
     let a = mounted_line kept number in
-    let b = writes_line entries in (
-      kept,
-      number,
-      entries,
+    let b = writes_line entries in
+    inr (
+      serving_text kept number entries,
+      (kept, number, entries, refl),
       (
         length a + front.0,
         omega (arith, front.1, length-append a b),
@@ -89,22 +89,28 @@ second_broken kept number entries old mid new first front =
 -- both lines
 pub both_told : (kept number entries : ℕ) (end : LaneEnd) (old mid new : Option (List ℕ))
     → Appends old mid (mounted_line kept number)
-    → Appends mid new (writes_line entries) → TellsServed (judged end) old new
-both_told kept number entries lanes.Counted old mid new first second =
-    (kept, number, entries, Appends-trans old mid new (mounted_line kept number) (writes_line entries) first second)
-both_told kept number entries lanes.Closed old mid new first second =
-    (kept, number, entries, Appends-trans old mid new (mounted_line kept number) (writes_line entries) first second)
-both_told kept number entries lanes.Failed old mid new first second = (
-  kept,
-  number,
-  entries,
-  (
-    length (serving_text kept number entries),
-    omega arith,
-    subst (λ (t : List ℕ). Appends old new t) (sym whole)
-        (Appends-trans old mid new (mounted_line kept number) (writes_line entries) first second),
-  ),
+    → Appends mid new (writes_line entries) → TellsEnd IsServingText (judged end) old new
+both_told kept number entries lanes.Counted old mid new first second = (
+  serving_text kept number entries,
+  (kept, number, entries, refl),
+  Appends-trans old mid new (mounted_line kept number) (writes_line entries) first second,
 )
+both_told kept number entries lanes.Closed old mid new first second = (
+  serving_text kept number entries,
+  (kept, number, entries, refl),
+  Appends-trans old mid new (mounted_line kept number) (writes_line entries) first second,
+)
+both_told kept number entries lanes.Failed old mid new first second =
+    inr (
+      serving_text kept number entries,
+      (kept, number, entries, refl),
+      (
+        length (serving_text kept number entries),
+        omega arith,
+        subst (λ (t : List ℕ). Appends old new t) (sym whole)
+            (Appends-trans old mid new (mounted_line kept number) (writes_line entries) first second),
+      ),
+    )
   where
     whole : take (length (serving_text kept number entries)) (serving_text kept number entries) ≡ serving_text kept number entries
     whole = take-length (serving_text kept number entries)

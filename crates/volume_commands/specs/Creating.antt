@@ -24,7 +24,7 @@ use Rattle.volume_commands.specs.declared.error.CommandError.TheVariants as erro
 use Rattle.refusals.specs.declared.refusal.Refusal.{Refusal}
 use Rattle.refusals.specs.declared.refusal.Refusal.TheVariants as reasons
 use Rattle.volume_commands.specs.declared.report.Report.{Report}
-use Rattle.volume_commands.specs.declared.report.Report.TheVariants.{Done, Fault, Usage, BadLine, Refused, Memory}
+use Rattle.volume_commands.specs.declared.report.Report.TheVariants.{Done, Fault, Usage, BadLine, Refused, Missing, Memory}
 use Rattle.volume_commands.specs.declared.world.WorldError.{WorldError}
 use Rattle.volume_commands.specs.declared.world.WorldError.TheVariants as world_errors
 use Rattle.volume_commands.specs.Closing.{IsLetGo}
@@ -120,6 +120,7 @@ TellsCreation request (Refused why) old new = (why ≡ reasons.Exists) × (new �
 TellsCreation request Memory old new = new ≡ old
 TellsCreation request Usage old new = ⊥
 TellsCreation request (BadLine number reason) old new = ⊥
+TellsCreation request Missing old new = ⊥
 
 -- A volume was created as the request asks, and the line tells its uuid.
 pub record Creates (tells : Bool) (request : CreateRequest) (before after : Places) (old new : Option (List ℕ)) : Type 0 where

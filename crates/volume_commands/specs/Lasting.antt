@@ -1,4 +1,4 @@
--- Contract: what `create` and `serve` leave of a volume is what its next mount asks for, with its whole history.
+-- Contract: what `create`, `serve` and `collect` leave of a volume is what its next mount asks for, with its whole history.
 use Rattle.std.specs.Prelude.{◌≡◌, ℕ, ◌+◌, true, false, Option, Some, IsTrue, List, []}
 use Rattle.lsvd_base.specs.declared.entry.Entry.{Entry}
 use Rattle.lsvd_base.specs.Limits.{is_within_limits}
@@ -9,6 +9,7 @@ use Rattle.lsvd_objstore.specs.Store.{StoreState, ReceiptState}
 use Rattle.commit_slot.specs.Slots.{log_of}
 use Rattle.command_line.specs.Create.{sizes_of}
 use Rattle.command_line.specs.declared.create.CreateRequest.{CreateRequest}
+use Rattle.command_line.specs.declared.mount.MountRequest.{MountRequest}
 use Rattle.command_line.specs.declared.serve.ServeRequest.{ServeRequest}
 use Rattle.stopped_volume.specs.Device.{CacheOwner, owner_with}
 use Rattle.stopped_volume.specs.Objects.{landed_in}
@@ -26,7 +27,8 @@ use Rattle.volume_owner.specs.History.{GoesOn}
 use Rattle.volume_server.specs.History.{Grows}
 use Rattle.volume_server.specs.Serving.{ListenerState, ConnectionState}
 use Rattle.volume_commands.specs.Creating.{CreatesOn}
-use Rattle.volume_commands.specs.Mounting.{ServesOn}
+use Rattle.volume_commands.specs.Collecting.{CollectsOn}
+use Rattle.volume_commands.specs.Serving.{ServesOn}
 
 -- ---- what is left
 
@@ -64,14 +66,14 @@ pub record LeavesWhole (owner : CacheOwner) (added : List Entry) (plain : PlainS
 -- So a run of `serve` leaves what its mount made, with the entries that its clients added; and it told how many that has.
 pub record ServesWhole {D R L K : Type 0} {disk_state : D → DiskState} {receipt_state : R → ReceiptState}
     {listener_state : L → ListenerState} {coming : L → Option (List K)} {link_state : K → ConnectionState}
-    {request : ServeRequest} {links : Option (List K)} {disk disk_left : DiskState} {store store_left : StoreState}
+    (request : ServeRequest) {links : Option (List K)} {disk disk_left : DiskState} {store store_left : StoreState}
     {old new : Option (List ℕ)}
     (serves : ServesOn disk_state receipt_state listener_state coming link_state request links disk disk_left store store_left old
     new) (epoch : ℕ) (made : PlainState) : Type 0 where
   pub added : List Entry
-  pub grows : Grows receipt_state added (moment_of serves.mounted.volume serves.mid) serves.serves.last
-  pub leaves : LeavesWhole (owner_with request.volume epoch) added made store_left.objects disk_left
-  pub count : serves.serves.entries ≡ history_length leaves.after
+  pub grows : Grows receipt_state added (moment_of serves.mounted.volume serves.mid) serves.does.last
+  pub leaves : LeavesWhole (owner_with request.mount.volume epoch) added made store_left.objects disk_left
+  pub count : serves.does.entries ≡ history_length leaves.after
 
 -- ---- laws
 
@@ -90,11 +92,11 @@ abbrev pub ServedWithIsWhole : {D R L K : Type 0} → (D → DiskState) → (R �
 ServedWithIsWhole {D} {R} {L} {K} disk_state receipt_state listener_state coming link_state =
     (request : ServeRequest) (links : Option (List K)) (disk disk_left : DiskState) (store store_left : StoreState)
     (old new : Option (List ℕ)) (epoch : ℕ) (plain : PlainState) (found : PlainCommit) (landed : Numbers) (objects : Objects)
-    → TellsBytes receipt_state → IsUuid request.volume → request.is_lost ≡ false → store.objects ≡ Some objects
-    → plain.geometry.log ≡ log_of disk.size → MayMountWith (owner_with request.volume epoch) plain found landed objects disk
+    → TellsBytes receipt_state → IsUuid request.mount.volume → request.mount.is_lost ≡ false → store.objects ≡ Some objects
+    → plain.geometry.log ≡ log_of disk.size → MayMountWith (owner_with request.mount.volume epoch) plain found landed objects disk
     → (serves : ServesOn disk_state receipt_state listener_state coming link_state request links disk disk_left store store_left
     old new)
-    → ServesWhole serves epoch (mounted_from landed found plain)
+    → ServesWhole request serves epoch (mounted_from landed found plain)
 
 -- Where the store may be mounted without the cache on the log of a disk, a run without it leaves what that mount made whole so,
 -- in the next epoch.
@@ -103,8 +105,28 @@ abbrev pub ServedWithoutIsWhole : {D R L K : Type 0} → (D → DiskState) → (
 ServedWithoutIsWhole {D} {R} {L} {K} disk_state receipt_state listener_state coming link_state =
     (request : ServeRequest) (links : Option (List K)) (disk disk_left : DiskState) (store store_left : StoreState)
     (old new : Option (List ℕ)) (epoch : ℕ) (plain : PlainState) (landed : Numbers) (objects : Objects)
-    → TellsBytes receipt_state → IsUuid request.volume → request.is_lost ≡ true → store.objects ≡ Some objects
-    → MayMountWithout request.volume (log_of disk.size) epoch plain landed objects
+    → TellsBytes receipt_state → IsUuid request.mount.volume → request.mount.is_lost ≡ true → store.objects ≡ Some objects
+    → MayMountWithout request.mount.volume (log_of disk.size) epoch plain landed objects
     → (serves : ServesOn disk_state receipt_state listener_state coming link_state request links disk disk_left store store_left
     old new)
-    → ServesWhole serves (epoch + 1) (mounted_on (log_of disk.size) landed plain)
+    → ServesWhole request serves (epoch + 1) (mounted_on (log_of disk.size) landed plain)
+
+-- So it is of a run of `collect`, to whose history nothing is added.
+abbrev pub CollectedWithIsWhole : {D R : Type 0} → (D → DiskState) → (R → ReceiptState) → Type 0
+CollectedWithIsWhole {D} {R} disk_state receipt_state =
+    (request : MountRequest) (disk disk_left : DiskState) (store store_left : StoreState) (old new : Option (List ℕ)) (epoch : ℕ)
+    (plain : PlainState) (found : PlainCommit) (landed : Numbers) (objects : Objects)
+    → TellsBytes receipt_state → IsUuid request.volume → request.is_lost ≡ false → store.objects ≡ Some objects
+    → plain.geometry.log ≡ log_of disk.size → MayMountWith (owner_with request.volume epoch) plain found landed objects disk
+    → CollectsOn disk_state receipt_state request disk disk_left store store_left old new
+    → LeavesWhole (owner_with request.volume epoch) [] (mounted_from landed found plain) store_left.objects disk_left
+
+abbrev pub CollectedWithoutIsWhole : {D R : Type 0} → (D → DiskState) → (R → ReceiptState) → Type 0
+CollectedWithoutIsWhole {D} {R} disk_state receipt_state =
+    (request : MountRequest) (disk disk_left : DiskState) (store store_left : StoreState) (old new : Option (List ℕ)) (epoch : ℕ)
+    (plain : PlainState) (landed : Numbers) (objects : Objects)
+    → TellsBytes receipt_state → IsUuid request.volume → request.is_lost ≡ true → store.objects ≡ Some objects
+    → MayMountWithout request.volume (log_of disk.size) epoch plain landed objects
+    → CollectsOn disk_state receipt_state request disk disk_left store store_left old new
+    → LeavesWhole (owner_with request.volume (epoch + 1)) [] (mounted_on (log_of disk.size) landed plain) store_left.objects
+    disk_left

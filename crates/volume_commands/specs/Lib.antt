@@ -1,8 +1,12 @@
+pub mod Checking
 pub mod Closing
+pub mod Collecting
 pub mod Creating
 pub mod Lasting
 pub mod Mounting
+pub mod Output
 pub mod Refusal
 pub mod Report
 pub mod Serving
+pub mod Work
 pub mod World

@@ -1,10 +1,10 @@
--- Contract: which volume `serve` mounts, what it tells of it and what becomes of it, or why it mounts none.
-use Rattle.std.specs.Prelude.{◌≡◌, ℕ, ◌⊎◌, Bool, true, false, List, [], Option, Some, None, Result, Ok, Err, option_map}
-use Rattle.std.specs.Io.KnownBytes.{Appends}
+-- Contract: which volume a command mounts and what becomes of it, or why it mounts none.
+use Rattle.std.specs.Prelude.{◌≡◌, ℕ, ◌≤◌, ◌^◌, ◌⊎◌, Bool, true, false, List, Option, Some, None, IfSome, Result, Ok, Err}
+use Rattle.std.specs.Prelude.{option_map}
 use Rattle.lsvd_device.specs.Device.{DiskState}
 use Rattle.lsvd_objstore.specs.Objects.{Objects}
 use Rattle.lsvd_objstore.specs.Store.{StoreState, ReceiptState}
-use Rattle.command_line.specs.declared.serve.ServeRequest.{ServeRequest}
+use Rattle.command_line.specs.declared.mount.MountRequest.{MountRequest}
 use Rattle.stopped_volume.specs.Store.{TellsBytes}
 use Rattle.vol_core.specs.Volume.{SteppedVolume}
 use Rattle.vol_core.specs.View.{volume_disk}
@@ -14,28 +14,26 @@ use Rattle.vol_mount.specs.Mounted.{MountedState}
 use Rattle.vol_recover.specs.Admitting.{IsWhyNotAdmitted}
 use Rattle.vol_recover.specs.Mounting.{MountsKept, MountsLost}
 use Rattle.volume_owner.specs.Acts.{Moment, moment_of}
-use Rattle.volume_owner.specs.Calls.{IsLengthOf, IsDrained}
-use Rattle.volume_server.specs.OwnerDevice.{Calls, owner_relations}
-use Rattle.volume_server.specs.Serving.{ListenerState, ConnectionState, GivesClients, EndsLane, AreClients}
-use Rattle.volume_server.specs.declared.serving.Lane.{Lane}
-use Rattle.volume_server.specs.declared.serving.LaneEnd.TheVariants as ends
 use Rattle.refusals.specs.declared.refusal.Refusal.{Refusal}
 use Rattle.volume_commands.specs.Closing.{IsLetGo}
-use Rattle.volume_commands.specs.Serving.{serving_text}
 use Rattle.volume_commands.specs.World.{Places, where_told, bytes_with, IsGiven}
 
 -- ---- the cache
+
+-- the log of a cache that is made anew has at most 2^31 sectors
+abbrev pub HasLogLength : MountRequest → Type 0
+HasLogLength request = IfSome request.log (λ log. log ≤ 2 ^ 31)
 
 -- how many sectors the log of a cache has that is made anew; None is for a cache that there is
 abbrev pub log_if_lost : (is_lost : Bool) → Option ℕ → Option ℕ
 log_if_lost true log = log
 log_if_lost false log = None
 
-abbrev pub log_anew : ServeRequest → Option ℕ
+abbrev pub log_anew : MountRequest → Option ℕ
 log_anew request = log_if_lost request.is_lost request.log
 
 -- the bytes of such a cache
-abbrev pub bytes_anew : ServeRequest → Option ℕ
+abbrev pub bytes_anew : MountRequest → Option ℕ
 bytes_anew request = option_map bytes_with (log_anew request)
 
 -- ---- a mount
@@ -51,19 +49,19 @@ MountEnds state receipt_state false uuid disk old new result =
 -- ---- refusals
 
 -- A refusal is told before the cache is made anew for this alone: the volume does not take the log that it is to have.
-abbrev pub IsWhyBefore : ServeRequest → Option Objects → Refusal → Type 0
+abbrev pub IsWhyBefore : MountRequest → Option Objects → Refusal → Type 0
 IsWhyBefore request objects why =
     (log : ℕ) × (log_anew request ≡ Some log) × IsWhyNotAdmitted request.volume log objects (Refused why)
 
 -- The volume that is asked for was refused by its mount of this disk and this store, which left them so.
-abbrev pub RefusesOn : {D R : Type 0} → (D → DiskState) → (R → ReceiptState) → ServeRequest → DiskState → (disk_left : D)
+abbrev pub RefusesOn : {D R : Type 0} → (D → DiskState) → (R → ReceiptState) → MountRequest → DiskState → (disk_left : D)
     → (store store_left : StoreState) → Refusal → Type 0
 RefusesOn disk_state receipt_state request disk disk_left store store_left why =
     MountEnds disk_state receipt_state request.is_lost request.volume disk store store_left (Err (disk_left, Refused why))
 
 -- It was refused so of the disk that stood at its path or was made anew, which stands there as the mount left it.
 pub record RefusesCache {D R : Type 0} (tells : Bool) (disk_state : D → DiskState) (receipt_state : R → ReceiptState)
-    (request : ServeRequest) (stood stands : Option DiskState) (store store_left : StoreState) (why : Refusal) : Type 0 where
+    (request : MountRequest) (stood stands : Option DiskState) (store store_left : StoreState) (why : Refusal) : Type 0 where
   pub disk : DiskState
   pub given : IsGiven tells (bytes_anew request) stood disk
   pub disk_left : D
@@ -71,7 +69,7 @@ pub record RefusesCache {D R : Type 0} (tells : Bool) (disk_state : D → DiskSt
   pub cache_now : stands ≡ where_told tells (disk_state disk_left)
 
 -- It was refused before the cache was made anew, which is as it was, or so.
-abbrev pub RefusesIn : {D R : Type 0} → (tells : Bool) → (D → DiskState) → (R → ReceiptState) → ServeRequest
+abbrev pub RefusesIn : {D R : Type 0} → (tells : Bool) → (D → DiskState) → (R → ReceiptState) → MountRequest
     → (stood stands : Option DiskState) → (store store_left : StoreState) → Refusal → Type 0
 RefusesIn tells disk_state receipt_state request stood stands store store_left why =
     ((TellsBytes receipt_state → IsWhyBefore request store.objects why) × (stands ≡ stood))
@@ -80,7 +78,7 @@ RefusesIn tells disk_state receipt_state request stood stands store store_left w
 -- The volume that is asked for is refused, of the store that stood at its path, which stands there with the same objects, and of
 -- the disk at that of its cache.
 pub record RefusesFor {D R : Type 0} (tells : Bool) (disk_state : D → DiskState) (receipt_state : R → ReceiptState)
-    (request : ServeRequest) (before after : Places) (why : Refusal) : Type 0 where
+    (request : MountRequest) (before after : Places) (why : Refusal) : Type 0 where
   pub store : StoreState
   pub stood : before.stores request.store.now ≡ where_told tells store
   pub store_left : StoreState
@@ -89,67 +87,40 @@ pub record RefusesFor {D R : Type 0} (tells : Bool) (disk_state : D → DiskStat
   pub same : store_left.objects ≡ store.objects
   pub store_now : after.stores request.store.now ≡ where_told tells store_left
 
--- ---- a server
+-- ---- what is done
 
--- A volume was drained, whose history has so many entries: none was added, and each is in an object that is acknowledged.
-pub record Drains {R : Type 0} (receipt_state : R → ReceiptState) (entries : ℕ) (old closing : Moment) : Type 0 where
-  pub count : IsLengthOf entries old.volume.volume
-  pub calls : Calls receipt_state [] false old closing
-  pub drained : IsDrained closing.volume.volume
+-- What is done with a volume that was mounted: of the volume and of the store as they were then, up to the moment at its end.
+abbrev pub MountedRelation : Type 1
+MountedRelation = MountedState → StoreState → Moment → Type 0
 
--- A volume that was mounted was served to the clients that came, one after the other: as many as were to be, or all before the
--- listener was closed. Then it was drained. The lines tell how many entries its history had and the number of its last object,
--- and how many entries it has at the end, with those of the clients.
-pub record ServesMounted {R L K : Type 0} (receipt_state : R → ReceiptState) (listener_state : L → ListenerState)
-    (coming : L → Option (List K)) (link_state : K → ConnectionState) (sessions : ℕ) (links : Option (List K))
-    (mounted : MountedState) (store : StoreState) (closing : Moment) (old new : Option (List ℕ)) : Type 0 where
-  pub lane : Lane
-  pub succeeds : lane.end ≡ ends.Failed → ⊥
-  pub ends : EndsLane sessions lane
-  pub clients : L
-  pub after : L
-  pub gives : GivesClients lane (listener_state clients) (listener_state after)
-  pub last : Moment
-  pub served : AreClients (owner_relations receipt_state) link_state lane.served links (coming after)
-      (moment_of mounted.volume store) last
-  pub entries : ℕ
-  pub drains : Drains receipt_state entries last closing
-  pub told : Appends old new (serving_text mounted.entries mounted.number entries)
-
--- The volume that is asked for was mounted of this disk and this store, and served, drained and let go, which left them so.
-pub record ServesOn {D R L K : Type 0} (disk_state : D → DiskState) (receipt_state : R → ReceiptState)
-    (listener_state : L → ListenerState) (coming : L → Option (List K)) (link_state : K → ConnectionState)
-    (request : ServeRequest) (links : Option (List K)) (disk disk_left : DiskState) (store store_left : StoreState)
-    (old new : Option (List ℕ)) : Type 0 where
+-- The volume that is asked for was mounted of this disk and this store, this was done with it, and it was let go, which left them
+-- so.
+pub record WorksOn {D R : Type 0} (disk_state : D → DiskState) (receipt_state : R → ReceiptState) (request : MountRequest)
+    (Does : MountedRelation) (disk disk_left : DiskState) (store store_left : StoreState) : Type 0 where
   pub mounted : MountedState
   pub mid : StoreState
   pub mounts : MountEnds disk_state receipt_state request.is_lost request.volume disk store mid (Ok mounted)
   pub closing : SteppedVolume
-  pub serves : ServesMounted receipt_state listener_state coming link_state request.sessions links mounted mid
-      (moment_of closing store_left) old new
+  pub does : Does mounted mid (moment_of closing store_left)
   pub let_go : IsLetGo closing
   pub disk_is : disk_left ≡ volume_disk closing.volume
 
 -- So it was of the disk that stood at its path or was made anew, which stands there as it was left.
-pub record ServesCache {D R L K : Type 0} (tells : Bool) (disk_state : D → DiskState) (receipt_state : R → ReceiptState)
-    (listener_state : L → ListenerState) (coming : L → Option (List K)) (link_state : K → ConnectionState)
-    (request : ServeRequest) (links : Option (List K)) (stood stands : Option DiskState) (store store_left : StoreState)
-    (old new : Option (List ℕ)) : Type 0 where
+pub record WorksIn {D R : Type 0} (tells : Bool) (disk_state : D → DiskState) (receipt_state : R → ReceiptState)
+    (request : MountRequest) (Does : MountedRelation) (stood stands : Option DiskState) (store store_left : StoreState) :
+    Type 0 where
   pub disk : DiskState
   pub given : IsGiven tells (bytes_anew request) stood disk
   pub disk_left : DiskState
-  pub serves : ServesOn disk_state receipt_state listener_state coming link_state request links disk disk_left store store_left
-      old new
+  pub works : WorksOn disk_state receipt_state request Does disk disk_left store store_left
   pub cache_now : stands ≡ where_told tells disk_left
 
--- And so it was of the store that stood at its path, which stands there as it was left, and of the disk at that of its cache, for
--- the clients that came to the socket.
-pub record Serves {D R L K : Type 0} (tells : Bool) (disk_state : D → DiskState) (receipt_state : R → ReceiptState)
-    (listener_state : L → ListenerState) (coming : L → Option (List K)) (link_state : K → ConnectionState)
-    (request : ServeRequest) (links : Option (List K)) (before after : Places) (old new : Option (List ℕ)) : Type 0 where
+-- And so it was of the store that stood at its path, which stands there as it was left, and of the disk at that of its cache.
+pub record WorksFor {D R : Type 0} (tells : Bool) (disk_state : D → DiskState) (receipt_state : R → ReceiptState)
+    (request : MountRequest) (Does : MountedRelation) (before after : Places) : Type 0 where
   pub store : StoreState
   pub stood : before.stores request.store.now ≡ where_told tells store
   pub store_left : StoreState
-  pub serves : ServesCache tells disk_state receipt_state listener_state coming link_state request links
-      (before.disks request.cache.now) (after.disks request.cache.now) store store_left old new
+  pub works : WorksIn tells disk_state receipt_state request Does (before.disks request.cache.now)
+      (after.disks request.cache.now) store store_left
   pub store_now : after.stores request.store.now ≡ where_told tells store_left

@@ -4,13 +4,14 @@ ghost use Rattle.lsvd_fault.specs.Faults.{Counts, CountsOne};
 ghost use Rattle.volume_server.specs.History.{most_steps};
 ghost use Rattle.volume_owner.specs.Acts.{moment_of};
 ghost use Rattle.volume_owner.specs.Owner.{IsIdle};
-ghost use Rattle.volume_commands.specs.Mounting.{Drains, ServesMounted};
-ghost use Rattle.volume_commands.specs.Serving.{TellsServed, judged};
-ghost use Rattle.volume_commands.specs.Serving.{mounted_line, writes_line, AppendsFront};
-ghost use Rattle.volume_commands.specs.World.{IsConstant};
+ghost use Rattle.volume_commands.specs.Output.{AppendsFront, TellsEnd};
+ghost use Rattle.volume_commands.specs.Serving.{Drains, IsServingText, ServesMounted, judged};
+ghost use Rattle.volume_commands.specs.Serving.{mounted_line, writes_line};
+ghost use Rattle.volume_commands.specs.World.{CountsNone, CountsOneOf, IsConstant};
 ghost use Rattle.volume_server.specs.Serving.{listener_told, link_told};
 
 use crate::error::CommandError;
+use crate::world::World;
 use arrayvec::ArrayString;
 use itoa::Buffer;
 use lsvd_device::Disk;
@@ -28,9 +29,50 @@ use volume_server::{LaneEnd, serve_volume};
 // How many blocks of objects a server keeps in memory: 16 MiB of them.
 const CACHE_BLOCKS: usize = 256;
 
+// Begins to listen, and serves a volume that was mounted. The volume is given back.
+pub(crate) fn serve_mounted<W: World>(
+    alloc: Global,
+    socket: &str,
+    sessions: u64,
+    world: &mut W,
+    out: &mut W::Out,
+    store: &mut W::Store,
+    mounted: Mounted<W::Disk, <W::Store as Store>::Receipt>,
+) -> (
+    Volume<W::Disk, <W::Store as Store>::Receipt>,
+    Result<(), CommandError>,
+)
+    requires idle { IsIdle mounted.volume.volume }
+    requires steps { mounted.volume.steps ≤ most_steps }
+    ensures told { TellsEnd IsServingText result.1 (W.Out.contents out.old) (W.Out.contents out.new) }
+    ensures serves { OnOk result.1 (ServesMounted W.Store.Receipt.state
+        (listener_told W.Clients.given W.Clients.closed W.Clients.faults)
+        (λ clients. W.Clients.coming clients)
+        (link_told W.Clients.Link.remaining W.Clients.Link.contents W.Clients.Link.held
+        W.Clients.Link.Source.faults)
+        sessions (W.clients_at world.old socket.now) mounted (W.Store.state store.old)
+        (moment_of result.0 (W.Store.state store.new)) (W.Out.contents out.old) (W.Out.contents out.new)) }
+    ensures refused { (why : Refusal) → IsErrOf result.1 (CommandError.Refused why) → ⊥ }
+    ensures fault { IsErrOf result.1 CommandError.Fault → IsConstant (λ disk. (W.Disk.state disk).faults)
+        → IsConstant (λ store. (W.Store.state store).faults)
+        → IsConstant W.Clients.faults → CountsOneOf (W.faults world.old) (W.faults world.new)
+        (W.Out.faults out.old) (W.Out.faults out.new) }
+    ensures no_fault { result.1 ≢ Err CommandError.Fault
+        → CountsNone (W.faults world.old) (W.faults world.new)
+        (W.Out.faults out.old) (W.Out.faults out.new) }
+{
+    let mut clients = match world.listen(socket) {
+        Ok(clients) => clients,
+        Err(error) => return (mounted.volume, Err(error.into())),
+    };
+    let served = serve_clients(alloc, mounted, &mut clients, store, sessions, out);
+    drop(clients);
+    served
+}
+
 // Tells that a volume was mounted, serves it until the last session has ended, and drains it and tells that
 // then. The volume is given back.
-pub(crate) fn serve_clients<D: Disk, S: Store, L: Listener, O: Sink>(
+fn serve_clients<D: Disk, S: Store, L: Listener, O: Sink>(
     alloc: Global,
     mounted: Mounted<D, S::Receipt>,
     clients: &mut L,
@@ -40,7 +82,7 @@ pub(crate) fn serve_clients<D: Disk, S: Store, L: Listener, O: Sink>(
 ) -> (Volume<D, S::Receipt>, Result<(), CommandError>)
     requires idle { IsIdle mounted.volume.volume }
     requires steps { mounted.volume.steps ≤ most_steps }
-    ensures told { TellsServed result.1 (O.contents out.old) (O.contents out.new) }
+    ensures told { TellsEnd IsServingText result.1 (O.contents out.old) (O.contents out.new) }
     ensures serves { OnOk result.1 (ServesMounted S.Receipt.state
         (listener_told L.given L.closed L.faults)
         (λ clients. L.coming clients)

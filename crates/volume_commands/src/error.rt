@@ -1,20 +1,23 @@
 ghost use Rattle.std.specs.Prelude.{◌≡◌};
 ghost use Rattle.volume_commands.specs.declared.error.CommandError.TheVariants as errors;
+ghost use Rattle.volume_commands.specs.Checking.{of_check};
 ghost use Rattle.volume_commands.specs.Creating.{of_creation, of_look, of_world};
 ghost use Rattle.volume_commands.specs.Serving.{of_mount, of_owner};
 
 use crate::world::WorldError;
 use lsvd_fault::Failed;
 use refusals::Refusal;
+use std::alloc::AllocError;
 use super_recovery::SuperError;
 use thiserror::Error;
+use vol_check::CheckError;
 use vol_recover::{CreateError, MountError};
 use volume_owner::OwnerError;
 
 /// Why a command ended before its work was done.
 #[derive(Clone, Copy, Debug, Error)]
 pub(crate) enum CommandError {
-    /// The volume is not created or not mounted, for this reason.
+    /// The volume is not created, not mounted or not checked, for this reason.
     #[error("{0}")]
     Refused(Refusal),
     /// A call of the world failed, or one of a disk or of a store that it gave.
@@ -33,6 +36,14 @@ impl From<WorldError> for CommandError {
             WorldError::Failed => CommandError::Fault,
             WorldError::OutOfMemory => CommandError::OutOfMemory,
         }
+    }
+}
+
+impl From<AllocError> for CommandError {
+    ghost from_gives = { λ _ e. e ≡ errors.OutOfMemory };
+
+    fn from(_: AllocError) -> CommandError {
+        CommandError::OutOfMemory
     }
 }
 
@@ -88,6 +99,18 @@ impl From<OwnerError> for CommandError {
         match error {
             OwnerError::Range | OwnerError::Eio => CommandError::Fault,
             OwnerError::OutOfMemory => CommandError::OutOfMemory,
+        }
+    }
+}
+
+impl From<CheckError> for CommandError {
+    ghost from_gives = { λ error e. e ≡ of_check error };
+
+    fn from(error: CheckError) -> CommandError {
+        match error {
+            CheckError::Refused(refusal) => CommandError::Refused(refusal),
+            CheckError::StoreFault => CommandError::Fault,
+            CheckError::OutOfMemory => CommandError::OutOfMemory,
         }
     }
 }

@@ -1,4 +1,5 @@
 ghost use Rattle.volume_commands.specs.Lasting.{CreatedIsWhole, ServedWithIsWhole, ServedWithoutIsWhole};
+ghost use Rattle.volume_commands.specs.Lasting.{CollectedWithIsWhole, CollectedWithoutIsWhole};
 ghost use Rattle.volume_server.specs.Serving.{listener_told, link_told};
 
 use lsvd_device::Disk;
@@ -32,6 +33,19 @@ pub fn a_served_volume_may_be_mounted_again<D: Disk, R: Receipt, L: Listener>()
         (link_told L.Link.remaining L.Link.contents L.Link.held L.Link.Source.faults) }
 {
     clients_add_to_one_history::<R, L::Link>();
+    acts_keep_the_store::<R>();
+    a_made_volume_stands_with_its_store();
+    a_stop_leaves_what_a_mount_asks_for::<R>();
+    a_stopped_store_has_the_objects();
+    a_stop_keeps_what_was_acknowledged();
+}
+
+/// A law: a volume that was collected may be mounted again, with its cache, by whatever a stop leaves of
+/// that, and without it. Either mount makes a volume whose history is that which the mount before made.
+pub fn a_collected_volume_may_be_mounted_again<D: Disk, R: Receipt>()
+    ensures with_cache { CollectedWithIsWhole (λ disk. D.state disk) R.state }
+    ensures without { CollectedWithoutIsWhole (λ disk. D.state disk) R.state }
+{
     acts_keep_the_store::<R>();
     a_made_volume_stands_with_its_store();
     a_stop_leaves_what_a_mount_asks_for::<R>();

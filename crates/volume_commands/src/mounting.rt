@@ -2,13 +2,12 @@ ghost use Rattle.std.specs.Prelude.{◌≡◌, ◌≤◌, ◌^◌, IfSome, IfOk,
 ghost use Rattle.lsvd_device.specs.Device.{IsDisk};
 ghost use Rattle.lsvd_objstore.specs.Store.{OnlyCounts};
 ghost use Rattle.stopped_volume.specs.Store.{TellsBytes};
-ghost use Rattle.volume_commands.specs.Mounting.{IsWhyBefore, MountEnds, bytes_anew, log_anew};
-ghost use Rattle.volume_commands.specs.Serving.{HasLogLength};
+ghost use Rattle.volume_commands.specs.Mounting.{HasLogLength, IsWhyBefore, MountEnds, bytes_anew, log_anew};
 ghost use Rattle.volume_commands.specs.World.{IsConstant};
 
 use crate::creating::device_bytes;
 use crate::error::CommandError;
-use command_line::ServeRequest;
+use command_line::MountRequest;
 use lsvd_device::Disk;
 use lsvd_objstore::Store;
 use refusals::Refusal;
@@ -20,7 +19,7 @@ use vol_recover::{MountError, Mounted, admit_log, mount_kept, mount_lost};
 pub(crate) fn length_anew<S: Store>(
     alloc: Global,
     store: &mut S,
-    request: &ServeRequest<'_>,
+    request: &MountRequest<'_>,
 ) -> Result<Option<u64>, CommandError>
     requires { HasLogLength request.now }
     ensures length { IfOk result (λ length. length ≡ bytes_anew request.now) }
@@ -40,7 +39,7 @@ pub(crate) fn length_anew<S: Store>(
 }
 
 // How many sectors the log of a cache has that is made anew; None is for one that there is.
-fn log_anew(request: &ServeRequest<'_>) -> Option<u64>
+fn log_anew(request: &MountRequest<'_>) -> Option<u64>
     requires { HasLogLength request.now }
     ensures log { result ≡ log_anew request.now }
     ensures fits { IfSome result (λ log. log ≤ 2 ^ 31) }
@@ -53,7 +52,7 @@ pub(crate) fn mount<D: Disk, S: Store>(
     alloc: Global,
     disk: D,
     store: &mut S,
-    request: &ServeRequest<'_>,
+    request: &MountRequest<'_>,
 ) -> Result<Mounted<D, S::Receipt>, (D, MountError)>
     requires { IsDisk (D.state disk) }
     ensures { MountEnds D.state S.Receipt.state request.now.is_lost request.now.volume (D.state disk)

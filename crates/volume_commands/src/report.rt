@@ -19,14 +19,16 @@ pub enum Report {
     Usage,
     /// This line of the script, counted from 1, is bad.
     BadLine { number: u64, reason: LineReason },
-    /// The volume is not created or not mounted, for this reason.
+    /// The volume is not created, not mounted or not checked, for this reason.
     Refused(Refusal),
+    /// The volume was checked, and something is missing.
+    Missing,
     /// Memory ran out.
     Memory,
 }
 
 impl Report {
-    /// The exit status: 0 done, 1 a fault, 2 usage, 3 a refusal, 4 out of memory.
+    /// The exit status: 0 done, 1 a fault, 2 usage, 3 a refusal or something missing, 4 out of memory.
     pub fn status(&self) -> u8
         ensures { result ≡ status_of self.now }
     {
@@ -34,19 +36,19 @@ impl Report {
             Report::Done => 0,
             Report::Fault => 1,
             Report::Usage => 2,
-            Report::BadLine { .. } | Report::Refused(_) => 3,
+            Report::BadLine { .. } | Report::Refused(_) | Report::Missing => 3,
             Report::Memory => 4,
         }
     }
 
-    /// Writes the line that tells it, which a run that is done does not have. Where a write fails, a
-    /// front of the line stands there, and nothing else is done about it.
+    /// Writes the line that tells it. A run that is done has none, nor has one whose output tells what is
+    /// missing. Where a write fails, a front of the line stands there, and nothing else is done about it.
     pub fn tell<E: Sink>(&self, err: &mut E)
         ensures told { IsTold (E.contents err.old) (E.contents err.new) (E.faults err.old) (E.faults err.new)
             (line_of self.now) }
     {
         match self {
-            Report::Done => {}
+            Report::Done | Report::Missing => {}
             Report::Fault => tell_line(err, b"fault\n"),
             Report::Usage => tell_line(err, b"usage\n"),
             Report::BadLine { number, reason } => tell_bad_line(err, *number, *reason),

@@ -13,6 +13,15 @@ pub returns-clause-serve_valid : goal.returns-clause-serve_valid
 returns-clause-serve_valid g c options valid words is =
     c.execute-report.ensures.serve_valid options valid words (usage_of_status c.execute-report.result (sym c.status.ensures ∙ is))
 
+pub returns-clause-collect_valid : goal.returns-clause-collect_valid
+returns-clause-collect_valid g c options valid words is =
+    c.execute-report.ensures.collect_valid options valid words
+    (usage_of_status c.execute-report.result (sym c.status.ensures ∙ is))
+
+pub returns-clause-check_valid : goal.returns-clause-check_valid
+returns-clause-check_valid g c options valid words is =
+    c.execute-report.ensures.check_valid options valid words (usage_of_status c.execute-report.result (sym c.status.ensures ∙ is))
+
 pub returns-clause-churn_valid : goal.returns-clause-churn_valid
 returns-clause-churn_valid g c steps seed within below words is =
     c.execute-report.ensures.churn_valid steps seed within below words

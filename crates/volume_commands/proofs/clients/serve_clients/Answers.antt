@@ -8,7 +8,7 @@ use Rattle.volume_owner.specs.Acts.{moment_of}
 use Rattle.volume_server.proofs.ClientLemmas.{clients_grow}
 use Rattle.volume_commands.specs.declared.error.CommandError.{CommandError}
 use Rattle.volume_commands.specs.declared.error.CommandError.TheVariants as errors
-use Rattle.volume_commands.specs.Mounting.{Drains}
+use Rattle.volume_commands.specs.Serving.{Drains, IsServingText}
 use Rattle.volume_commands.proofs.Served.{judged_fault, judged_refuses_none, lane_counts_none, of_other, on_judged, refused_in}
 use Rattle.volume_commands.proofs.Told.{nothing_told, first_broken, only_first, second_broken, both_told}
 use Rattle.volume_commands.proofs.Told.{serves_with}
@@ -42,7 +42,7 @@ returns-clause-told g c =
     c.in_default-tell_mounted.ensures.ok c.in_default-tell_writes.ensures.ok)
 
 pub returns-in_default-clause-told : goal.returns-in_default-clause-told
-returns-in_default-clause-told g c = nothing_told (g.O.Sink.contents c.args.out.now)
+returns-in_default-clause-told g c = nothing_told IsServingText errors.OutOfMemory (g.O.Sink.contents c.args.out.now)
 
 -- ---- it is done
 

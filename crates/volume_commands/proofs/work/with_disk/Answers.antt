@@ -3,16 +3,17 @@ use Rattle.std.specs.Prelude.{Err}
 use Rattle.vol_mount.specs.declared.error.MountError.{MountError}
 use Rattle.volume_commands.specs.declared.error.CommandError.TheVariants as errors
 use Rattle.volume_commands.specs.Mounting.{MountEnds}
+use Rattle.volume_commands.specs.Work.{IsTextOf}
 use Rattle.volume_commands.proofs.Mounts.{fault_counts_none, made_some, refusal_is}
 use Rattle.volume_commands.proofs.Places.{on_done}
 use Rattle.volume_commands.proofs.Served.{mounted_has_room, mounted_is_idle, told_as}
-use Rattle.volume_commands.proofs.Told.{nothing_served}
-use Rattle.volume_commands.proofs.serving.serve_on.Goals as goal
+use Rattle.volume_commands.proofs.Told.{nothing_told}
+use Rattle.volume_commands.proofs.work.with_disk.Goals as goal
 
 -- ---- it was not mounted
 
 pub returns-in-Err-clause-told : goal.returns-in-Err-clause-told
-returns-in-Err-clause-told g c = nothing_served c.into.result (g.W.Out.Sink.contents c.args.out.now)
+returns-in-Err-clause-told g c = nothing_told (IsTextOf c.args.work) c.into.result (g.W.Out.Sink.contents c.args.out.now)
 
 pub returns-in-Err-clause-why : goal.returns-in-Err-clause-why
 returns-in-Err-clause-why g c why is =
@@ -31,29 +32,29 @@ returns-in-Err-clause-fault g c is disks stores clients =
 
 -- ---- it was mounted
 
-pub serve_mounted-volume-requires-clause-idle : goal.serve_mounted-volume-requires-clause-idle
-serve_mounted-volume-requires-clause-idle g c =
+pub run_work-volume-requires-clause-idle : goal.run_work-volume-requires-clause-idle
+run_work-volume-requires-clause-idle g c =
     mounted_is_idle _ _ c.in-Ok.mounted
     (made_some (λ disk. g.W.Disk.Disk.state disk) g.W.Store.Receipt.Receipt.state c.args.request.now.is_lost
     c.args.request.now.volume (g.W.Disk.Disk.state c.args.disk) _ _ c.in-Ok.mounted c.in-Ok.ensures)
 
-pub serve_mounted-volume-requires-clause-steps : goal.serve_mounted-volume-requires-clause-steps
-serve_mounted-volume-requires-clause-steps g c =
+pub run_work-volume-requires-clause-steps : goal.run_work-volume-requires-clause-steps
+run_work-volume-requires-clause-steps g c =
     mounted_has_room _ _ c.in-Ok.mounted
     (made_some (λ disk. g.W.Disk.Disk.state disk) g.W.Store.Receipt.Receipt.state c.args.request.now.is_lost
     c.args.request.now.volume (g.W.Disk.Disk.state c.args.disk) _ _ c.in-Ok.mounted c.in-Ok.ensures)
 
 pub returns-clause-why : goal.returns-clause-why
-returns-clause-why g c why is = absurd (c.serve_mounted-volume.ensures.refused why is)
+returns-clause-why g c why is = absurd (c.run_work-volume.ensures.refused why is)
 
-pub returns-clause-serves : goal.returns-clause-serves
-returns-clause-serves g c =
-    on_done c.serve_mounted-volume.result.1 (λ serves. record {
+pub returns-clause-does : goal.returns-clause-does
+returns-clause-does g c =
+    on_done c.run_work-volume.result.1 (λ does. record {
       mounted = c.in-Ok.mounted;
       mid = g.W.Store.Store.state c.mount.new.store;
       mounts = c.in-Ok.ensures;
-      closing = c.serve_mounted-volume.result.0;
-      serves = serves;
+      closing = c.run_work-volume.result.0;
+      does = does;
       let_go = c.let_go.ensures.let_go;
       disk_is = c.let_go.ensures.same;
-    }) c.serve_mounted-volume.ensures.serves
+    }) c.run_work-volume.ensures.does

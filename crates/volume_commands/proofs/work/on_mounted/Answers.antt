@@ -1,5 +1,5 @@
 use Rattle.volume_commands.proofs.Served.{same_refusal}
-use Rattle.volume_commands.proofs.serving.answer_serve.Goals as goal
+use Rattle.volume_commands.proofs.work.on_mounted.Goals as goal
 
 pub returns-in-Err-Refused-clause-why : goal.returns-in-Err-Refused-clause-why
 returns-in-Err-Refused-clause-why g c why is =
