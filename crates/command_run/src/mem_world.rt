@@ -116,6 +116,10 @@ impl World for MemWorld {
         }
     }
 
+    fn store_to_read(&mut self, path: &str) -> Result<MemStore, WorldError> {
+        self.store(path, false)
+    }
+
     fn listen(&mut self, _path: &str) -> Result<MemListener, WorldError> {
         match self.clients.take() {
             Some(clients) => Ok(clients),

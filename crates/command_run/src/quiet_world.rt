@@ -203,6 +203,10 @@ impl World for QuietWorld {
         }
     }
 
+    fn store_to_read(&mut self, path: &str) -> Result<MemStore, WorldError> {
+        self.store(path, false)
+    }
+
     fn listen(&mut self, _path: &str) -> Result<QuietListener, WorldError> {
         Ok(QuietListener { closed: false })
     }

@@ -86,7 +86,7 @@ fn check_volume<W: World>(
     ensures no_fault { result ≢ Err CommandError.Fault → CountsNone (W.faults world.old) (W.faults world.new)
         (W.Out.faults out.old) (W.Out.faults out.new) }
 {
-    let mut store = world.store(request.store, false)?;
+    let mut store = world.store_to_read(request.store)?;
     let checked = check_in(alloc, request.volume, out, &mut store);
     world.close_store(request.store, store);
     checked

@@ -1,5 +1,6 @@
 ghost use Rattle.std.specs.Prelude.{◌≡◌, false, None};
-ghost use Rattle.lsvd_fault.specs.Faults.{CountsOne};
+ghost use Rattle.lsvd_fault.specs.Faults.{Counts, CountsOne};
+ghost use Rattle.volume_commands.specs.World.{world_failed};
 
 use crate::world::{World, WorldError};
 use gathered_disk::{GatheredDisk, Untold};
@@ -42,6 +43,26 @@ impl<'a, R: Read + Drop, O: Write + Drop, E: Write + Drop> RealWorld<'a, R, O, E
     {
         self.faults = self.faults.saturating_add(1);
         WorldError::Failed
+    }
+
+    // Opens the directory of a store, which is made where it is absent if it is to be.
+    fn open_store(&mut self, path: &str, make: bool) -> Result<RealStore<'a>, WorldError>
+        ensures { Counts (world_failed result) self.old.faults self.new.faults }
+    {
+        let place = Place::new(self.rt, path)?;
+        let opened = if make {
+            DirStore::create(self.rt, path)
+        } else {
+            DirStore::open(self.rt, path)
+        };
+        match opened {
+            Ok(directory) => Ok(RealStore { place, directory }),
+            Err(DirectoryError::OutOfMemory) => Err(WorldError::OutOfMemory),
+            Err(error) => {
+                place.tell(error);
+                Err(self.count())
+            }
+        }
     }
 }
 
@@ -92,26 +113,17 @@ impl<'a, R: Read + Drop, O: Write + Drop, E: Write + Drop> World for RealWorld<'
     }
 
     fn store(&mut self, path: &str, make: bool) -> Result<RealStore<'a>, WorldError> {
-        let place = Place::new(self.rt, path)?;
-        let opened = if make {
-            DirStore::create(self.rt, path)
-        } else {
-            DirStore::open(self.rt, path)
-        };
-        let directory = match opened {
-            Ok(directory) => directory,
-            Err(DirectoryError::OutOfMemory) => return Err(WorldError::OutOfMemory),
-            Err(error) => {
-                place.tell(error);
-                return Err(self.count());
-            }
-        };
-        let mut store = RealStore { place, directory };
+        let mut store = self.open_store(path, make)?;
         match store.clear() {
             Ok(()) => Ok(store),
             Err(StoreError::OutOfMemory) => Err(WorldError::OutOfMemory),
             Err(StoreError::Failed) => Err(self.count()),
         }
+    }
+
+    // What stopped puts left stays.
+    fn store_to_read(&mut self, path: &str) -> Result<RealStore<'a>, WorldError> {
+        self.open_store(path, false)
     }
 
     fn listen(&mut self, path: &str) -> Result<RealListener<'a>, WorldError> {

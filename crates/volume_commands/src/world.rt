@@ -1,4 +1,4 @@
-ghost use Rattle.std.specs.Prelude.{◌≡◌, ℕ, Bool, List, Option, IfOk, OnErr};
+ghost use Rattle.std.specs.Prelude.{◌≡◌, ℕ, Bool, false, List, Option, IfOk, OnErr};
 ghost use Rattle.lsvd_fault.specs.Faults.{Counts};
 ghost use Rattle.lsvd_device.specs.Device.{DiskState};
 ghost use Rattle.lsvd_objstore.specs.Store.{StoreState};
@@ -72,10 +72,20 @@ pub trait World {
         ensures clients { clients_at self.new ≡ clients_at self.old }
         ensures count { Counts (world_failed result) (faults self.old) (faults self.new) };
 
-    /// The store at a path, with its objects. Where there is none, it is made if it is to be, and else the
-    /// call fails.
+    /// The store at a path, with its objects, to be changed. Where there is none, it is made if it is to be,
+    /// and else the call fails.
     fn store(&mut self, path: &str, make: bool) -> Result<Self::Store, WorldError>
         ensures given { IfOk result (λ store. IsGivenStore tells make (store_at self.old path.now)
+            (Self.Store.state store)) }
+        ensures failed { OnErr result (store_at self.new ≡ store_at self.old) }
+        ensures disks { disk_at self.new ≡ disk_at self.old }
+        ensures clients { clients_at self.new ≡ clients_at self.old }
+        ensures count { Counts (world_failed result) (faults self.old) (faults self.new) };
+
+    /// The store that stands at a path, to be read alone: all that is there is left as it is. Where there is
+    /// none, the call fails.
+    fn store_to_read(&mut self, path: &str) -> Result<Self::Store, WorldError>
+        ensures given { IfOk result (λ store. IsGivenStore tells false (store_at self.old path.now)
             (Self.Store.state store)) }
         ensures failed { OnErr result (store_at self.new ≡ store_at self.old) }
         ensures disks { disk_at self.new ≡ disk_at self.old }
