@@ -7,6 +7,9 @@ pub const UUID: [u8; 16] = [0, 0, 0, 0, 0, 0, 0x40, 0, 0x80, 0, 0, 0, 0, 0, 0, 1
 /// That of another one, 00000000-0000-4000-8000-000000000003.
 pub const OTHER: [u8; 16] = [0, 0, 0, 0, 0, 0, 0x40, 0, 0x80, 0, 0, 0, 0, 0, 0, 3];
 
+/// That of the ancestor of a clone, 00000000-0000-4000-8000-000000000002.
+pub const BASE: [u8; 16] = [0, 0, 0, 0, 0, 0, 0x40, 0, 0x80, 0, 0, 0, 0, 0, 0, 2];
+
 /// The volume's super object: 64 sectors, at most 8 in a write and 16 in a batch.
 pub const SUPER: &[u8] = &[
     0x4c, 0x53, 0x56, 0x44, 0x53, 0x55, 0x50, 0x31, 0, 0, 0, 1, 0, 0, 0, 0, 0, 0, 0x40, 0, 0x80, 0,

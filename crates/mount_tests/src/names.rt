@@ -1,6 +1,6 @@
 ghost use Rattle.lsvd_names.specs.Spelling.{IsName};
 
-use crate::bytes::{OTHER, UUID};
+use crate::bytes::{BASE, OTHER, UUID};
 use lsvd_names::ObjName;
 use uuid::Uuid;
 
@@ -16,6 +16,20 @@ pub fn other_super_name() -> ObjName
     ensures { IsName result }
 {
     ObjName::super_of(Uuid::from_bytes(OTHER))
+}
+
+/// The name of that of the ancestor of a clone.
+pub fn base_super_name() -> ObjName
+    ensures { IsName result }
+{
+    ObjName::super_of(Uuid::from_bytes(BASE))
+}
+
+/// The name of a numbered object of that ancestor.
+pub fn base_object_name(number: u64) -> ObjName
+    ensures { IsName result }
+{
+    ObjName::object(Uuid::from_bytes(BASE), number)
 }
 
 /// The name of an epoch of the volume.

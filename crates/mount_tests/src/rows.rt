@@ -3,7 +3,9 @@ use crate::answer::Answer;
 use crate::bytes::OTHER;
 use crate::cache::{Cache, LEFT, SHORT, SIZE, device};
 use crate::scene::{Mount, mounted};
-use crate::store::Change::{Clone, Epoch, Hold, NoEpoch, NoObject, NoSuper, Object, OtherVolume};
+use crate::store::Change::{
+    BaseObject, BaseSuper, Clone, Epoch, Hold, NoEpoch, NoObject, NoSuper, Object, OtherVolume,
+};
 use crate::store::Stored::{Checkpoint, Copy, Cut, Data, Foreign, Mapping, Misnamed};
 use crate::store::{Change, change_all, put_volume};
 use crate::telling::tell_found;
@@ -191,7 +193,7 @@ pub static OBJECTS: [Row; 26] = [
 ];
 
 /// Super objects, epochs and holds.
-pub static VOLUMES: [Row; 18] = [
+pub static VOLUMES: [Row; 21] = [
     Row {
         what: "no super object",
         changes: &[NoSuper],
@@ -199,7 +201,22 @@ pub static VOLUMES: [Row; 18] = [
     },
     Row {
         what: "a clone",
+        changes: &[Clone(35, 0x40), BaseSuper, BaseObject(3)],
+        ..LOST
+    },
+    Row {
+        what: "one whose ancestor is absent",
         changes: &[Clone(35, 0x40)],
+        ..LOST
+    },
+    Row {
+        what: "one whose ancestor has no super object",
+        changes: &[Clone(35, 0x40), BaseObject(3)],
+        ..LOST
+    },
+    Row {
+        what: "one whose ancestor has another object alone",
+        changes: &[Clone(35, 0x40), BaseSuper, BaseObject(2)],
         ..LOST
     },
     Row {

@@ -2,7 +2,10 @@
 ghost use Rattle.lsvd_names.specs.Spelling.{IsName};
 
 use crate::bytes::{CLONE, Content, OTHER, Object, SUPER, UUID, add_epoch, add_hold, add_object};
-use crate::names::{epoch_name, hold_name, object_name, other_super_name, super_name};
+use crate::names::{
+    base_object_name, base_super_name, epoch_name, hold_name, object_name, other_super_name,
+    super_name,
+};
 use lsvd_base::ObjectBytes;
 use lsvd_names::ObjName;
 use lsvd_objstore::{MemStore, Store};
@@ -43,6 +46,10 @@ pub enum Change {
     NoObject(u64),
     /// Puts a super object for another volume, which is bad for that one.
     OtherVolume,
+    /// Puts a super object for the ancestor of a clone, which is bad for that one.
+    BaseSuper,
+    /// Puts an empty object of that ancestor under a number.
+    BaseObject(u64),
 }
 
 // The volume: epoch 0, and two entries in object 2, after the first checkpoint.
@@ -88,6 +95,8 @@ fn make(alloc: Global, store: &mut MemStore, change: Change) -> Result<(), TestE
         }
         Change::NoObject(number) => remove(alloc, store, &object_name(number)),
         Change::OtherVolume => put(alloc, store, &other_super_name(), CLONE.to_vec(alloc)?),
+        Change::BaseSuper => put(alloc, store, &base_super_name(), CLONE.to_vec(alloc)?),
+        Change::BaseObject(number) => put(alloc, store, &base_object_name(number), Vec::new(alloc)),
     }
 }
 

@@ -25,7 +25,7 @@ const REFUSALS: [Refusal; 14] = [
     Refusal::BadSuper {
         reason: BadSuper::Super(SuperReason::Magic),
     },
-    Refusal::HasAncestors { count: 2 },
+    Refusal::TooDeep { levels: 16 },
     Refusal::NoCheckpoint,
     Refusal::BadObject {
         number: 3,
@@ -67,7 +67,7 @@ const VOLUMES: &[SuperError] = &[
     SuperError::OutOfMemory,
 ];
 
-const RECOVERIES: &[RecoverError] = &[
+const RECOVERIES: [RecoverError; 5] = [
     RecoverError::NoCheckpoint,
     RecoverError::BadObject {
         number: 3,
@@ -93,8 +93,15 @@ fn tell_mounts(rt: &HostRuntime) -> Result<(), TestError> {
     for error in FAULTS {
         println!(rt; "{error}")?;
     }
-    let found = Uuid::from_bytes(OTHER);
-    println!(rt; "{}", MountError::Refused(Refusal::WrongVolume { found }))?;
+    let uuid = Uuid::from_bytes(OTHER);
+    println!(rt;
+        "{}",
+        MountError::Refused(Refusal::WrongVolume { found: uuid })
+    )?;
+    println!(rt;
+        "{}",
+        MountError::Refused(Refusal::BaseMissing { ancestor: uuid })
+    )?;
     Ok(())
 }
 
@@ -116,5 +123,7 @@ fn tell_recoveries(rt: &HostRuntime) -> Result<(), TestError> {
     for error in RECOVERIES {
         println!(rt; "{error}")?;
     }
+    let uuid = Uuid::from_bytes(OTHER);
+    println!(rt; "{}", RecoverError::BaseMissing { uuid })?;
     Ok(())
 }

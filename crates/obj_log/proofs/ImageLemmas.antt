@@ -37,7 +37,7 @@ adopting_keeps_stream data_at stream old new entries bytes rows end receipt uplo
     record {
       objects =
           subst (λ v. AreOfStream v data_at (with_adopted entries end stream) new.uploads)
-          (same_volume old new adopted.uploads.uuid adopted.geometry) now;
+          (same_volume old new adopted.uploads.uuid adopted.uploads.ancestors adopted.geometry) now;
       sectors = same_sectors old new adopted.uploads.sectors adopted.geometry is.sectors;
       first = adopted.first ∙ sym now_end;
       entries = adopted.entries ∙ sym now_all_in;
@@ -56,7 +56,7 @@ adopting_copy_keeps_stream data_at stream old new pairs bytes rows receipt uploa
     record {
       objects =
           subst (λ v. AreOfStream v data_at (with_copy pairs stream) new.uploads)
-          (same_volume old new adopted.uploads.uuid adopted.geometry)
+          (same_volume old new adopted.uploads.uuid adopted.uploads.ancestors adopted.geometry)
           (adopting_copy volume data_at stream old.uploads new.uploads pairs bytes rows receipt uploads is.objects none holds
           taken);
       sectors = same_sectors old new adopted.uploads.sectors adopted.geometry is.sectors;

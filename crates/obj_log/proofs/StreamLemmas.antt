@@ -42,13 +42,22 @@ use Rattle.obj_log.specs.Laws.{SealingCheckpointKeepsStreamOfList, RemovalsKeepS
 use Rattle.obj_log.specs.Laws.{SealingCopyKeepsStreamOfList, DoneKeepsStreamOfList}
 
 pub new_list_begins_stream : NewListBeginsStream
-new_list_begins_stream data_at log number end opening first entries sectors window frontier end_is sealed logged uploads owned =
-    let stream : Stream = record { number = number; end = end; opening = opening; entries = []; objects = [] } in
+new_list_begins_stream data_at log number end opening inherited first entries sectors window frontier end_is sealed logged ordered
+    owned others =
+    let stream : Stream = record {
+      number = number;
+      end = end;
+      opening = opening;
+      inherited = inherited;
+      entries = [];
+      objects = [];
+    } in
     let last : end_at stream (last_number stream) ≡ end = ap (end_after end) (grow.all_objects stream) in
     let none : 0 ≡ end_at stream (last_number stream) - end = omega (arith, last) in
     record {
-      objects = grow.stream_begins (expected_of_volume log) data_at log.uploads number end opening window frontier end_is sealed
-          logged uploads owned;
+      objects = grow.stream_begins
+          (expected_of_volume log) data_at log.uploads number end opening inherited window frontier end_is
+          sealed logged ordered owned others;
       sectors = sectors;
       first = first ∙ sym last;
       entries = entries ∙ ap (λ n. drop n stream.entries) none;
@@ -56,14 +65,23 @@ new_list_begins_stream data_at log number end opening first entries sectors wind
 
 -- ---- the volume
 
--- what is expected of objects is the same while the uuid and the sizes are
-pub same_volume : (old new : ObjLogState) → new.uploads.uuid ≡ old.uploads.uuid → new.batch.geometry ≡ old.batch.geometry
-    → expected_of_volume old ≡ expected_of_volume new
-same_volume old new uuid geometry =
-    ap (λ (u : List ℕ). record { uuid = u; number = 0; sectors = old.batch.geometry.sectors; ancestors = 0; end_before = None })
-    (sym uuid)
-    ∙ ap (λ (g : Geometry). record { uuid = new.uploads.uuid; number = 0; sectors = g.sectors; ancestors = 0; end_before = None })
-    (sym geometry)
+-- what is expected of objects of a volume
+abbrev expected_by : (uuid : List ℕ) (sectors ancestors : ℕ) → Expected
+expected_by uuid sectors ancestors = record {
+  uuid = uuid;
+  number = 0;
+  sectors = sectors;
+  ancestors = ancestors;
+  end_before = None;
+}
+
+-- it is the same while the uuid, the sizes and the count of ancestors are
+pub same_volume : (old new : ObjLogState) → new.uploads.uuid ≡ old.uploads.uuid → new.uploads.ancestors ≡ old.uploads.ancestors
+    → new.batch.geometry ≡ old.batch.geometry → expected_of_volume old ≡ expected_of_volume new
+same_volume old new uuid ancestors geometry =
+    ap (λ (u : List ℕ). expected_by u old.batch.geometry.sectors old.uploads.ancestors) (sym uuid)
+    ∙ (ap (expected_by new.uploads.uuid old.batch.geometry.sectors) (sym ancestors)
+    ∙ ap (λ (g : Geometry). expected_by new.uploads.uuid g.sectors new.uploads.ancestors) (sym geometry))
 
 -- and so are the sectors of both
 pub same_sectors : (old new : ObjLogState) → new.uploads.sectors ≡ old.uploads.sectors → new.batch.geometry ≡ old.batch.geometry
@@ -94,7 +112,8 @@ same_of_stream volume data_at stream old new kept are =
 pub room_keeps_stream : RoomKeepsStreamOfList
 room_keeps_stream data_at stream old new is same = record {
   objects =
-      subst (λ v. AreOfStream v data_at stream new.uploads) (same_volume old new same.uploads.uuid same.geometry)
+      subst (λ v. AreOfStream v data_at stream new.uploads) (same_volume old new same.uploads.uuid same.uploads.ancestors
+      same.geometry)
       (same_of_stream (expected_of_volume old) data_at stream old.uploads new.uploads same.uploads is.objects);
   sectors = same_sectors old new same.uploads.sectors same.geometry is.sectors;
   first = same.first ∙ is.first;
@@ -105,12 +124,13 @@ room_keeps_stream data_at stream old new is same = record {
 
 -- a list is that of a stream where its objects are, and its batch is as before
 with_objects : (data_at : ℕ → ℕ) (stream : Stream) (old new : ObjLogState) → IsOfStream data_at stream old
-    → new.uploads.uuid ≡ old.uploads.uuid → new.uploads.sectors ≡ old.uploads.sectors → new.batch ≡ old.batch
+    → new.uploads.uuid ≡ old.uploads.uuid → new.uploads.sectors ≡ old.uploads.sectors
+    → new.uploads.ancestors ≡ old.uploads.ancestors → new.batch ≡ old.batch
     → AreOfStream (expected_of_volume old) data_at stream new.uploads → IsOfStream data_at stream new
-with_objects data_at stream old new is uuid sectors same are =
+with_objects data_at stream old new is uuid sectors ancestors same are =
     let geometry = ap (λ (b : BatchState). b.geometry) same in
     record {
-      objects = subst (λ v. AreOfStream v data_at stream new.uploads) (same_volume old new uuid geometry) are;
+      objects = subst (λ v. AreOfStream v data_at stream new.uploads) (same_volume old new uuid ancestors geometry) are;
       sectors = same_sectors old new sectors geometry is.sectors;
       first = ap (λ (b : BatchState). b.first) same ∙ is.first;
       entries = ap (λ (b : BatchState). b.entries) same ∙ is.entries;
@@ -126,13 +146,13 @@ jobs_keep_stream data_at stream log number started is = record {
 
 pub done_keeps_stream : DoneKeepsStreamOfList
 done_keeps_stream data_at stream old new number receipt uploads is done same =
-    with_objects data_at stream old new is done.uuid done.sectors same
+    with_objects data_at stream old new is done.uuid done.sectors done.ancestors same
     (keep.done_keeps_stream (expected_of_volume old) data_at stream old.uploads new.uploads number receipt uploads is.objects
     done)
 
 pub removals_keep_stream : RemovalsKeepStreamOfList
 removals_keep_stream data_at stream old new is kept same =
-    with_objects data_at stream old new is kept.uuid kept.sectors same
+    with_objects data_at stream old new is kept.uuid kept.sectors kept.ancestors same
     (keep.removals_keep_stream (expected_of_volume old) data_at stream old.uploads new.uploads kept is.objects)
 
 -- ---- an entry more
@@ -163,7 +183,7 @@ module _ (data_at : ℕ → ℕ) (stream : Stream) (log : ObjLogState) (is : IsO
 
 pub adding_keeps_stream : AddingKeepsStreamOfList
 adding_keeps_stream data_at stream old new entry uploads is added =
-    let volume = same_volume old new added.uuid added.geometry in
+    let volume = same_volume old new added.uuid added.ancestors added.geometry in
     let seq = next_seq data_at stream old is in
     let place = data_at (stream.end + length stream.entries) in
     let entered = subst (λ s. IsEntered entry s place old.uploads.queue new.uploads.queue) seq added.entered in
@@ -234,7 +254,7 @@ module _ (data_at : ℕ → ℕ) (stream : Stream) (old new : ObjLogState) (is :
   grown uploads = record {
     objects =
         subst (λ v. AreOfStream v data_at (with_data_object end stream) new.uploads)
-        (same_volume old new sealed.uploads.uuid sealed.geometry)
+        (same_volume old new sealed.uploads.uuid sealed.uploads.ancestors sealed.geometry)
         (grow.sealing_keeps_stream (expected_of_volume old) data_at stream old.uploads new.uploads sealed.bytes sealed.rows end
         uploads is.objects past within holds sealed.uploads);
     sectors = same_sectors old new sealed.uploads.sectors sealed.geometry is.sectors;
@@ -249,13 +269,13 @@ sealing_keeps_stream data_at stream old new uploads is sealed =
 
 -- ---- a checkpoint more
 
--- what is expected of an object without ancestors
-abbrev expected_with : (uuid : List ℕ) (number sectors : ℕ) (end_before : Option ℕ) → Expected
-expected_with uuid number sectors end_before = record {
+-- what is expected of an object
+abbrev expected_with : (uuid : List ℕ) (ancestors number sectors : ℕ) (end_before : Option ℕ) → Expected
+expected_with uuid ancestors number sectors end_before = record {
   uuid = uuid;
   number = number;
   sectors = sectors;
-  ancestors = 0;
+  ancestors = ancestors;
   end_before = end_before;
 }
 
@@ -266,22 +286,25 @@ objects_expect : (log : ObjLogState) (number before : ℕ) → log.uploads.secto
 objects_expect log number before sectors number_is end_is =
     let uuid = log.uploads.uuid in
     let own : Option ℕ = (expected_next log.uploads).end_before in
-    ap (λ n. expected_with uuid n log.uploads.sectors own) number_is
-    ∙ (ap (λ s. expected_with uuid number s own) sectors ∙ ap (expected_with uuid number log.batch.geometry.sectors) end_is)
+    let ancestors = log.uploads.ancestors in
+    ap (λ n. expected_with uuid ancestors n log.uploads.sectors own) number_is
+    ∙ (ap (λ s. expected_with uuid ancestors number s own) sectors
+    ∙ ap (expected_with uuid ancestors number log.batch.geometry.sectors) end_is)
 
 -- what is sealed with the end before it leaves the batch as it is
 more_of_same_end : (data_at : ℕ → ℕ) (stream : Stream) (old new : ObjLogState) (object : StreamObject)
     → IsOfStream data_at stream old → object.end ≡ end_at stream (last_number stream)
-    → new.uploads.uuid ≡ old.uploads.uuid → new.uploads.sectors ≡ old.uploads.sectors → new.batch ≡ old.batch
+    → new.uploads.uuid ≡ old.uploads.uuid → new.uploads.sectors ≡ old.uploads.sectors
+    → new.uploads.ancestors ≡ old.uploads.ancestors → new.batch ≡ old.batch
     → AreOfStream (expected_of_volume old) data_at (keep_objects.with_objects (object ∷ []) stream) new.uploads
     → IsOfStream data_at (keep_objects.with_objects (object ∷ []) stream) new
-more_of_same_end data_at stream old new object is end uuid sectors same are =
+more_of_same_end data_at stream old new object is end uuid sectors ancestors same are =
     let geometry = ap (λ (b : BatchState). b.geometry) same in
     let last = grow.end_of_object stream object ∙ end in
     record {
       objects =
           subst (λ v. AreOfStream v data_at (keep_objects.with_objects (object ∷ []) stream) new.uploads)
-          (same_volume old new uuid geometry) are;
+          (same_volume old new uuid ancestors geometry) are;
       sectors = same_sectors old new sectors geometry is.sectors;
       first = ap (λ (b : BatchState). b.first) same ∙ (is.first ∙ sym last);
       entries =
@@ -301,7 +324,7 @@ sealing_copy_keeps_stream data_at stream old new pairs bytes rows uploads is hol
     let now : IsSealedNext bytes (sealed_rows.Copy rows) end old.uploads new.uploads =
     subst (λ e. IsSealedNext bytes (sealed_rows.Copy rows) e old.uploads new.uploads) end_is sealed in
     more_of_same_end data_at stream old new (record { content = content.Copy pairs; end = end }) is refl sealed.uuid
-    sealed.sectors same
+    sealed.sectors sealed.ancestors same
     (grow.sealing_copy_keeps_stream volume data_at stream old.uploads new.uploads pairs bytes rows uploads is.objects held now)
 
 pub sealing_checkpoint_keeps_stream : SealingCheckpointKeepsStreamOfList
@@ -311,6 +334,6 @@ sealing_checkpoint_keeps_stream data_at stream old new uploads is has same =
     let expected = objects_expect old (last_number stream + 1) end is.sectors (ap (λ n. n + 1) (sym is.objects.last))
     (ap (λ e. Some e) end_is) in
     more_of_same_end data_at stream old new (record { content = content.Checkpoint; end = end }) is refl has.sealed.uuid
-    has.sealed.sectors same
+    has.sealed.sectors has.sealed.ancestors same
     (checkpoint.sealing_checkpoint_keeps_stream (expected_of_volume old) data_at stream old.uploads new.uploads uploads is.objects
     expected has)

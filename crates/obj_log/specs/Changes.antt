@@ -42,16 +42,17 @@ pub record IsAdded (entry : Entry) (data_at : ℕ) (old new : ObjLogState) : Typ
   pub window : new.uploads.window ≡ old.uploads.window
   pub uuid : new.uploads.uuid ≡ old.uploads.uuid
   pub sectors : new.uploads.sectors ≡ old.uploads.sectors
+  pub ancestors : new.uploads.ancestors ≡ old.uploads.ancestors
 
 -- ---- sealing
 
--- what is expected of the objects of a volume without ancestors, but for their numbers and ends
+-- what is expected of the objects of a volume, but for their numbers and ends
 abbrev pub expected_of_volume : ObjLogState → Expected
 expected_of_volume log = record {
   uuid = log.uploads.uuid;
   number = 0;
   sectors = log.batch.geometry.sectors;
-  ancestors = 0;
+  ancestors = log.uploads.ancestors;
   end_before = None;
 }
 

@@ -1,5 +1,5 @@
 -- Contract: what the calls keep of a stream.
-use Rattle.std.specs.Prelude.{◌≡◌, ℕ, ◌+◌, ◌<◌, Bool, List, [], length}
+use Rattle.std.specs.Prelude.{◌≡◌, ℕ, ◌+◌, ◌<◌, Bool, IfSome, List, [], length}
 use Rattle.std.specs.Global.{Vec}
 use Rattle.lsvd_base.specs.declared.entry.Entry.{Entry}
 use Rattle.lsvd_objstore.specs.Store.{ReceiptState}
@@ -15,23 +15,31 @@ use Rattle.object_uploads.specs.Queue.{end_of_last}
 use Rattle.object_uploads.specs.Changes.{IsSealedNext, with_job, IsPutDone}
 use Rattle.object_uploads.specs.Checkpoint.{HasSealedCheckpoint}
 use Rattle.object_uploads.specs.Removal.{IsSameButObjects}
-use Rattle.object_uploads.specs.Stream.{HoldsEntries, HoldsCopy}
+use Rattle.object_uploads.specs.Stream.{IsPlacedInherited, HoldsEntries, HoldsCopy}
 use Rattle.object_uploads.specs.Laws.{with_entry, with_data_object, with_copy, with_checkpoint, with_adopted}
 use Rattle.obj_log.specs.State.{ObjLogState}
 use Rattle.obj_log.specs.Changes.{next_of, IsSame, IsAdded, HasSealedObject, HasAdoptedObject}
 use Rattle.obj_log.specs.Stream.{IsOfStream}
 
 -- a list without entries, whose objects up to this number have the entries up to this end, is that of a stream that begins there,
--- with the owners of the objects' map
+-- with the owners of the objects' map, where those of ancestors have their places
 abbrev pub NewListBeginsStream : Type 0
 NewListBeginsStream =
-    (data_at : ℕ → ℕ) (log : ObjLogState) (number end : ℕ) (opening : Owners)
+    (data_at : ℕ → ℕ) (log : ObjLogState) (number end : ℕ) (opening : Owners) (inherited : ℕ → ℕ)
     → log.batch.first ≡ end → log.batch.entries ≡ [] → log.uploads.sectors ≡ log.batch.geometry.sectors
     → log.uploads.window ≡ record { last = number; objects = [] } → log.uploads.queue.frontier ≡ number
     → log.uploads.queue.end ≡ end
     → log.uploads.queue.sealed ≡ [] → log.uploads.queue.maps.log.rows ≡ []
     → IsUploads log.uploads → ((k : ℕ) → place_owner (settled_at log.uploads.queue.maps k) ≡ opening k)
-    → IsOfStream data_at (record { number = number; end = end; opening = opening; entries = []; objects = [] }) log
+    → ((k : ℕ) → IfSome (settled_at log.uploads.queue.maps k) (IsPlacedInherited inherited k))
+    → IsOfStream data_at (record {
+      number = number;
+      end = end;
+      opening = opening;
+      inherited = inherited;
+      entries = [];
+      objects = [];
+    }) log
 
 -- a list of a stream stays that while nothing changes but room
 abbrev pub RoomKeepsStreamOfList : Type 0

@@ -50,10 +50,19 @@ impl<R: Receipt> Model for ObjLog<R> {
 impl<R: Receipt> ObjLog<R> {
     ghost use Rattle.obj_log.specs.Lending.{LendsUploads};
 
-    /// The list of a volume with this uuid whose geometry is within the limits (a condition). Its objects up
-    /// to this number are acknowledged, and have the entries up to this end. It takes no memory.
-    pub fn new(alloc: Global, uuid: Uuid, geometry: Geometry, number: u64, end: u64) -> ObjLog<R>
-        requires { IsTrue (is_within_limits geometry) }
+    /// The list of a volume with this uuid whose geometry is within the limits, and that has this many
+    /// ancestors, 15 at most (conditions). Its objects up to this number are acknowledged, and have the
+    /// entries up to this end. It takes no memory.
+    pub fn new(
+        alloc: Global,
+        uuid: Uuid,
+        geometry: Geometry,
+        ancestors: u32,
+        number: u64,
+        end: u64,
+    ) -> ObjLog<R>
+        requires geometry { IsTrue (is_within_limits geometry) }
+        requires ancestors { ancestors ≤ 15 }
         ensures batch { result.batch ≡ record {
           geometry = geometry;
           first = end;
@@ -62,12 +71,14 @@ impl<R: Receipt> ObjLog<R> {
         } }
         ensures uuid { result.uploads.uuid ≡ uuid }
         ensures sectors { result.uploads.sectors ≡ geometry.sectors }
+        ensures ancestors { result.uploads.ancestors ≡ ancestors }
         ensures window { result.uploads.window ≡ record { last = number; objects = [] } }
         ensures frontier { result.uploads.queue.frontier ≡ number }
         ensures end { result.uploads.queue.end ≡ end }
         ensures sealed { result.uploads.queue.sealed ≡ [] }
         ensures receipts { result.uploads.queue.receipts ≡ [] }
         ensures removal { result.uploads.queue.removal ≡ None }
+        ensures inherited { result.uploads.queue.inherited ≡ [] }
         ensures settled { result.uploads.queue.maps.settled.rows ≡ [] }
         ensures log { result.uploads.queue.maps.log.rows ≡ [] }
         ensures objects { result.uploads.queue.maps.objects.rows ≡ [] }
@@ -76,7 +87,7 @@ impl<R: Receipt> ObjLog<R> {
     {
         ObjLog {
             batch: Batch::new(alloc, geometry, end),
-            uploads: Uploads::new(alloc, uuid, geometry.sectors, number, end),
+            uploads: Uploads::new(alloc, uuid, geometry.sectors, ancestors, number, end),
         }
     }
 
@@ -227,7 +238,7 @@ impl<R: Receipt> ObjLog<R> {
             uuid: self.uploads.uuid().into_bytes(),
             number: self.uploads.window().last() + 1,
             sectors: self.batch.geometry().sectors,
-            ancestors: 0,
+            ancestors: self.uploads.ancestors(),
             end_before: Some(self.batch.first_seq()),
         }
     }

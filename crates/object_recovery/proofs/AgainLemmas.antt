@@ -2,6 +2,7 @@
 use Rattle.std.proofs.Common.{◌≡◌, ℕ, ◌+◌, ◌-◌, ◌≤◌, inl, inr, Option, Some, None, List, []}
 use Rattle.std.proofs.Common.{◌∷◌, length, refl, sym, ◌∙◌, ap, subst, arith}
 use Rattle.std.specs.Prelude.{is_some, option_map}
+use Rattle.std.proofs.lemmas.Bool.{cases_lt}
 use Rattle.std.proofs.lemmas.List.{length-take}
 use Rattle.lsvd_base.specs.declared.entry.Entry.{Entry}
 use Rattle.lsvd_base.specs.Image.{Image}
@@ -28,7 +29,8 @@ use Rattle.object_recovery.specs.Recovery.{HasDataUpTo, IsPastOf}
 use Rattle.object_recovery.specs.Laws.{RemovalKeepsStream}
 use Rattle.object_recovery.proofs.RowLemmas.{place_stands}
 
-module _ (volume : Expected) (uuid_at : ℕ → Option (List ℕ)) (old new : Objects) (number : ℕ) (alone : volume.ancestors ≡ 0)
+module _ (volume : Expected) (uuid_at : ℕ → Option (List ℕ)) (old new : Objects) (number : ℕ)
+    (others : (level : ℕ) → 1 ≤ level → uuid_at level ≡ Some volume.uuid → ⊥)
     (removes : Removes (IsPastOf volume.uuid number) old new) where
   -- up to the number each object is as before
   kept_at : (at : ℕ) → at ≤ number → found new (object_name volume at) ≡ found old (object_name volume at)
@@ -62,8 +64,8 @@ module _ (volume : Expected) (uuid_at : ℕ → Option (List ℕ)) (old new : Ob
   }
 
   -- what its rows name is as before
-  abbrev sector_kept : (owner : Owner) (k : ℕ) (sector : List ℕ) → owner.number ≤ number → HasSector old uuid_at owner k sector
-      → HasSector new uuid_at owner k sector
+  abbrev sector_kept : (owner : Owner) (k : ℕ) (sector : List ℕ) → (owner.level ≡ 0 → owner.number ≤ number)
+      → HasSector old uuid_at owner k sector → HasSector new uuid_at owner k sector
   sector_kept owner k sector to has = record {
     expected = has.expected;
     wide = has.wide;
@@ -71,7 +73,11 @@ module _ (volume : Expected) (uuid_at : ℕ → Option (List ℕ)) (old new : Ob
     number = has.number;
     bytes = has.bytes;
     present =
-        removes.others (object_name has.expected owner.number) (λ past. absurd (omega (arith, past.1.1, to))) ∙ has.present;
+        removes.others (object_name has.expected owner.number)
+        (λ past. elim (cases_lt 0 owner.level) [
+          | inl further ↦ others owner.level (omega (arith, further)) (has.level ∙ ap Some past.0)
+          | inr own ↦ let low = to (omega (arith, own)) in absurd (omega (arith, past.1.1, low))
+        ]) ∙ has.present;
     header = has.header;
     rows = has.rows;
     payload = has.payload;
@@ -80,7 +86,7 @@ module _ (volume : Expected) (uuid_at : ℕ → Option (List ℕ)) (old new : Ob
   }
 
   stands_kept : (place : Option StoredPlace) (k : ℕ) (sector : List ℕ)
-      → ((p : StoredPlace) → place ≡ Some p → p.number ≤ number)
+      → ((p : StoredPlace) → place ≡ Some p → p.level ≡ 0 → p.number ≤ number)
       → StandsForSector old uuid_at (option_map stored_owner place) k sector
       → StandsForSector new uuid_at (option_map stored_owner place) k sector
   stands_kept None k sector low stands = stands
@@ -90,11 +96,11 @@ module _ (volume : Expected) (uuid_at : ℕ → Option (List ℕ)) (old new : Ob
       → HasOpening volume uuid_at new stream opening
   opening_kept stream opening to opens =
       let checkpoint = opens.is.checkpoint in
-      let low : (k : ℕ) (place : StoredPlace) → place_at stored_on checkpoint.rows k ≡ Some place → place.number ≤ number =
-      λ k place at.
+      let low : (k : ℕ) (place : StoredPlace) → place_at stored_on checkpoint.rows k ≡ Some place → place.level ≡ 0
+      → place.number ≤ number =
+      λ k place at own.
       let stands = place_stands (expected_alone volume stream.number) checkpoint.rows k place
       checkpoint.is_checkpoint.rows_are.all_stand at in
-      let own : place.level ≡ 0 = omega (arith, stands.level, alone) in
       omega (arith, stands.number own, to) in
       let hold : HoldPlaces new uuid_at checkpoint.rows =
       λ k place at.
@@ -108,6 +114,7 @@ module _ (volume : Expected) (uuid_at : ℕ → Option (List ℕ)) (old new : Ob
       } in
       record {
         is = record { checkpoint = checkpoint_kept stream.number stream.end stream.opening to checkpoint; places = hold };
+        inherited = opens.inherited;
         value = λ k sector at.
             let says = checkpoint.says k in
             subst (λ o. StandsForSector new uuid_at o k sector) (sym says)
@@ -224,5 +231,5 @@ module _ (volume : Expected) (uuid_at : ℕ → Option (List ℕ)) (old new : Ob
       }
 
 pub removal_keeps_stream : RemovalKeepsStream
-removal_keeps_stream volume uuid_at old new stream opening number alone removes has =
-    stream_kept volume uuid_at old new number alone removes stream opening has
+removal_keeps_stream volume uuid_at old new stream opening number others removes has =
+    stream_kept volume uuid_at old new number others removes stream opening has

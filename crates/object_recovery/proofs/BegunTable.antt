@@ -1,8 +1,7 @@
 -- The table of a list that begins with a checkpoint: which objects it has, and which of them the checkpoint does not map.
 use Rattle.std.proofs.Common.{◌≡◌, ℕ, ◌<◌, ◌≤◌, inl, inr, Option, Some, None, List, [], ◌∷◌, ◌++◌, map, refl, sym}
 use Rattle.std.proofs.Common.{◌∙◌, ap, subst, arith}
-use Rattle.std.specs.Prelude.{IsTrue, is_some, option_map, IfSome, IsSome, nat_eq, ◌↔◌, ◌⊎◌, false}
-use Rattle.std.specs.Option.{IsSome as IsTold}
+use Rattle.std.specs.Prelude.{IsTrue, is_some, option_map, IsSome, nat_eq, ◌↔◌, ◌⊎◌, false}
 use Rattle.std.specs.List.{All, AllZip, Contains}
 use Rattle.std.proofs.lemmas.Bool.{cases_lt}
 use Rattle.std.proofs.lemmas.List.Elements.{All-nil, All-cons, All-push, All-map, All-contains}
@@ -14,13 +13,10 @@ use Rattle.lsvd_objstore.specs.Store.{ReceiptState}
 use Rattle.extent_map.specs.declared.extent.Extent.{Extent}
 use Rattle.extent_map.specs.Extents.{place_at}
 use Rattle.object_format.specs.declared.expected.Expected.{Expected}
-use Rattle.object_format.specs.Header.{IsObjectHeader}
 use Rattle.ckpt_format.specs.declared.place.StoredPlace.{StoredPlace}
 use Rattle.ckpt_format.specs.Places.{stored_on}
-use Rattle.ckpt_format.specs.Rows.{AllMayStand}
 use Rattle.object_stream.specs.Replay.{object_name}
 use Rattle.object_stream.specs.Stream.{Owners, is_own}
-use Rattle.stopped_volume.specs.Expected.{expected_alone}
 use Rattle.stopped_volume.specs.Objects.{landed_in}
 use Rattle.stopped_volume.specs.Opening.{owned_by, IsCheckpointOf}
 use Rattle.object_table.specs.declared.row.ObjectRow.{ObjectRow}
@@ -43,10 +39,9 @@ use Rattle.object_uploads.proofs.StoredLemmas.{front_in}
 use Rattle.obj_log.specs.State.{ObjLogState}
 use Rattle.object_recovery.specs.Beginning.{IsTakenUp, HasTakenUp, HasRows}
 use Rattle.object_recovery.specs.Checkpoints.{expected_of}
-use Rattle.object_recovery.specs.Earlier.{EarlierObject, HasEarlier, AreAllEarlier, IsStoredThere, IsReached}
-use Rattle.object_recovery.specs.Table.{HasTableUnheld, HasPayloadThere, ArePayloadsThere, KnowsObjects, AreNamedThere}
-use Rattle.object_recovery.proofs.BegunLemmas.{HasPayloadIn, HasBegunWith, mapped_from, has_at}
-use Rattle.object_recovery.proofs.FindLemmas.{of_told}
+use Rattle.object_recovery.specs.Earlier.{EarlierObject, HasEarlier, AreAllEarlier, IsStoredThere}
+use Rattle.object_recovery.specs.Table.{HasTableUnheld, ArePayloadsThere, KnowsObjects}
+use Rattle.object_recovery.proofs.BegunLemmas.{HasBegunWith}
 use Rattle.object_recovery.proofs.PlaceLemmas.{so_some}
 use Rattle.object_recovery.proofs.RecoverLemmas.{one_reading}
 use Rattle.object_recovery.proofs.TableLemmas.{same_presence, row_of_last, AreUnpinned, unpinned_same, AreNotCopied}
@@ -75,34 +70,38 @@ taken_new volume Is new (first ∷ rest) (row ∷ rows) taken =
     All-cons Is row rows (subst Is (sym taken.0.2) (new first.number taken.0.0 taken.0.1))
     (taken_new volume Is new rest rows taken.1)
 
-module _ (uuid : List ℕ) (geometry : Geometry) (number end : ℕ) (earlier : List EarlierObject) (rows : List (Extent StoredPlace))
-    (taken log : ObjLogState) (is : HasTakenUp uuid geometry number end earlier taken) (has : HasRows rows taken log) where
+module _ (uuid : List ℕ) (geometry : Geometry) (ancestors number end : ℕ) (earlier : List EarlierObject)
+    (rows : List (Extent StoredPlace)) (taken log : ObjLogState)
+    (is : HasTakenUp uuid geometry ancestors number end earlier taken) (has : HasRows rows taken log) where
   abbrev table_rows : List ObjectRow
   table_rows = log.uploads.queue.maps.objects.rows
 
   unpinned : AreUnpinned table_rows
   unpinned =
       unpinned_same table_rows taken.uploads.queue.maps.objects.rows has.objects.rows
-      (taken_new (expected_of uuid geometry) (λ (row : ObjectRow). row.pins ≡ 0) (λ n payload front. refl) earlier
+      (taken_new (expected_of uuid geometry ancestors) (λ (row : ObjectRow). row.pins ≡ 0) (λ n payload front. refl) earlier
       taken.uploads.queue.maps.objects.rows is.objects)
 
   not_copied : AreNotCopied table_rows
   not_copied =
       not_copied_same table_rows taken.uploads.queue.maps.objects.rows has.objects.rows
-      (taken_new (expected_of uuid geometry) (λ (row : ObjectRow). row.is_copied ≡ false) (λ n payload front. refl) earlier
+      (taken_new (expected_of uuid geometry ancestors) (λ (row : ObjectRow). row.is_copied ≡ false)
+      (λ n payload front. refl) earlier
       taken.uploads.queue.maps.objects.rows is.objects)
 
   unheld : AreUnheld table_rows
   unheld =
       unheld_same table_rows taken.uploads.queue.maps.objects.rows has.objects.rows
-      (taken_new (expected_of uuid geometry) (λ (row : ObjectRow). row.is_held ≡ false) (λ n payload front. refl) earlier
+      (taken_new (expected_of uuid geometry ancestors) (λ (row : ObjectRow). row.is_held ≡ false)
+      (λ n payload front. refl) earlier
       taken.uploads.queue.maps.objects.rows is.objects)
 
   listed : All (λ (row : ObjectRow). IsListed earlier number row.number) table_rows
   listed =
       renumbered (IsListed earlier number) taken.uploads.queue.maps.objects.rows table_rows
       (same_numbers taken.uploads.queue.maps.objects log.uploads.queue.maps.objects has.objects)
-      (taken_have (expected_of uuid geometry) (IsListed earlier number) earlier taken.uploads.queue.maps.objects.rows is.objects
+      (taken_have (expected_of uuid geometry ancestors) (IsListed earlier number) earlier
+      taken.uploads.queue.maps.objects.rows is.objects
       (All-weaker (Contains earlier) (λ (e : EarlierObject). IsListed earlier number e.number) (λ e at. inl (e, at, refl)) earlier
       (All-contains_itself earlier)))
 
@@ -177,18 +176,18 @@ with_front : (row : Option ObjectRow) (front : ℕ) → front_in row ≡ Some fr
 with_front None front is = absurd cc
 with_front (Some row) front is = refl
 
-module _ (uuid : List ℕ) (geometry : Geometry) (number base_end : ℕ) (earlier : List EarlierObject)
+module _ (uuid : List ℕ) (geometry : Geometry) (ancestors number base_end : ℕ) (earlier : List EarlierObject)
     (rows : List (Extent StoredPlace)) (log : ObjLogState) (objects : Objects)
-    (begun : HasBegunWith (expected_of uuid geometry) earlier rows log.uploads.queue)
+    (begun : HasBegunWith (expected_of uuid geometry ancestors) earlier rows log.uploads.queue)
     (lists : ListsTable number earlier log.uploads.queue) (frontier : log.uploads.queue.frontier ≡ number)
     (order : IsUploads log.uploads)
     (owners_are : (k : ℕ) → place_owner (settled_at log.uploads.queue.maps k) ≡ owned_by rows k)
     (all : AreAllEarlier uuid objects number earlier)
-    (checkpoint : IsCheckpointOf (expected_of uuid geometry) objects number base_end (owned_by rows))
+    (checkpoint : IsCheckpointOf (expected_of uuid geometry ancestors) objects number base_end (owned_by rows))
     (its_rows : checkpoint.rows ≡ rows)
-    (payloads : ArePayloadsThere (expected_of uuid geometry) objects log.uploads.queue) where
+    (payloads : ArePayloadsThere (expected_of uuid geometry ancestors) objects log.uploads.queue) where
   abbrev volume : Expected
-  volume = expected_of uuid geometry
+  volume = expected_of uuid geometry ancestors
 
   abbrev queue : QueueState
   queue = log.uploads.queue
@@ -263,78 +262,3 @@ module _ (uuid : List ℕ) (geometry : Geometry) (number base_end : ℕ) (earlie
         ap (λ list. option_map mapped_place (place_at stored_on list k)) (one.1 ∙ its_rows) ∙ sym (begun.settled k) ∙ at);
     payloads = payloads;
   }
-
--- ---- the objects of its places
-
-module _ (uuid : List ℕ) (geometry : Geometry) (number : ℕ) (earlier : List EarlierObject) (rows : List (Extent StoredPlace))
-    (queue : QueueState) (stand : AllMayStand (expected_alone (expected_of uuid geometry) number) rows)
-    (reached : (k : ℕ) (place : StoredPlace) → place_at stored_on rows k ≡ Some place → IsReached earlier place)
-    (begun : HasBegunWith (expected_of uuid geometry) earlier rows queue) (objects : Objects)
-    (stored : All (IsStoredThere uuid objects) earlier)
-    (tells : All (λ (e : EarlierObject). IsTold e.receipt.told) earlier) where
-  abbrev volume_of : Expected
-  volume_of = expected_of uuid geometry
-
-  -- the object of a place, with its payload
-  record HasOf (place : StoredPlace) (payload : ℕ) : Type 0 where
-    there : HasPayloadThere volume_of objects place.number payload
-    inside : place.place < payload
-    in_table : HasPayloadIn place.number payload queue.maps.objects.rows
-
-  payload_of_place : (k : ℕ) (place : StoredPlace) → place_at stored_on rows k ≡ Some place → (payload : ℕ) × HasOf place payload
-  payload_of_place k place at =
-      let has = has_at uuid geometry number earlier rows queue stand reached begun k place at in
-      let e = has.object in
-      let there = All-contains (IsStoredThere uuid objects) earlier e stored has.at in
-      let told = All-contains (λ (o : EarlierObject). IsTold o.receipt.told) earlier e tells has.at in
-      let header = has.parts.header (λ none. omega (arith, none, has.before)) in
-      let own : HasPayloadThere volume_of objects e.number has.payload =
-      record {
-        bytes = there.0;
-        present = there.1;
-        header = header.header;
-        is_header =
-            of_told (λ bytes size. IsObjectHeader bytes size (expected_alone volume_of e.number) header.header)
-            (numbered_name uuid e.number) there.0 e.receipt there.2 told header.told;
-        no_checkpoint = header.no_checkpoint;
-        payload_is = header.payload_is;
-      } in (
-        has.payload,
-        record {
-          there = subst (λ n. HasPayloadThere volume_of objects n has.payload) has.named own;
-          inside = omega (arith, has.parts.reach, has.before);
-          in_table = subst (λ n. HasPayloadIn n has.payload queue.maps.objects.rows) has.named has.in_table;
-        },
-      )
-
-  pub named_there : AreNamedThere volume_of objects rows
-  named_there k place at =
-      let has = payload_of_place k place at in
-      let there = has.1.there in
-      record {
-        bytes = there.bytes;
-        present = there.present;
-        header = there.header;
-        is_header = there.is_header;
-        no_checkpoint = there.no_checkpoint;
-        inside = omega (arith, there.payload_is, has.1.inside);
-      }
-
-  -- and the table says its payload
-  payload_in_row : (row : Option ObjectRow) (n payload : ℕ) → HasPayloadThere volume_of objects n payload
-      → ((r : ObjectRow) → row ≡ Some r → r.payload ≡ payload)
-      → IfSome row (λ (r : ObjectRow). HasPayloadThere volume_of objects n r.payload)
-  payload_in_row None n payload there says = tt
-  payload_in_row (Some r) n payload there says = subst (HasPayloadThere volume_of objects n) (sym (says r refl)) there
-
-  pub payloads_there : ArePayloadsThere volume_of objects queue
-  payloads_there k place at =
-      let from = mapped_from (place_at stored_on rows k) place (sym (begun.settled k) ∙ at) in
-      let has = payload_of_place k from.0 from.1 in
-      let its = has.1.in_table in
-      subst (λ (p : ObjectPlace). IfSome (row_of p.number queue.maps.objects.rows) (λ (r : ObjectRow).
-      HasPayloadThere volume_of objects p.number r.payload)) from.2
-      (payload_in_row (row_of from.0.number queue.maps.objects.rows) from.0.number has.0 has.1.there (λ r is.
-      let both : Some r ≡ Some its.row = sym is ∙ its.there in
-      let same : r ≡ its.row = cc in
-      ap (λ (o : ObjectRow). o.payload) same ∙ its.payload_is))

@@ -80,13 +80,13 @@ found_name name None receipt finds = finds
 found_name name (Some objects) receipt finds = finds.2.named
 
 -- what the bytes of an object say is so of the store that has it
-pub no_checkpoint_found : (told : Option Objects) (name : ObjName) (geometry : Geometry) (receipt : ReceiptState)
+pub no_checkpoint_found : (told : Option Objects) (name : ObjName) (geometry : Geometry) (ancestors : ℕ) (receipt : ReceiptState)
     → name.kind ≡ Object → Finds name told (Some receipt) → IsSome receipt.told
-    → MayBeCheckpoint receipt (expected_alone (expected_of name.uuid geometry) name.number) None
-    → IfSome told (λ objects. IsCheckpointNamed geometry objects name None)
-no_checkpoint_found None name geometry receipt kind finds some none = tt
-no_checkpoint_found (Some objects) name geometry receipt kind finds some none = λ same_kind end owned checkpoint.
-    let volume = expected_of name.uuid geometry in
+    → MayBeCheckpoint receipt (expected_alone (expected_of name.uuid geometry ancestors) name.number) None
+    → IfSome told (λ objects. IsCheckpointNamed geometry ancestors objects name None)
+no_checkpoint_found None name geometry ancestors receipt kind finds some none = tt
+no_checkpoint_found (Some objects) name geometry ancestors receipt kind finds some none = λ same_kind end owned checkpoint.
+    let volume = expected_of name.uuid geometry ancestors in
     let expected = expected_alone volume name.number in
     let there : found objects (object_name volume name.number) ≡ Some finds.0 =
     ap (found objects) (sym (numbered name kind)) ∙ finds.1 in
@@ -116,10 +116,10 @@ name_order uuid a b less = number_order a b (sym (ap (λ order. ordering_then or
 pub hold_order : (uuid : List ℕ) (a b : ℕ) → name_cmp (hold_name uuid a) (hold_name uuid b) ≡ Less → a < b
 hold_order uuid a b less = number_order a b (sym (ap (λ order. ordering_then order (nat_cmp a b)) (same_uuid uuid)) ∙ less)
 
-module _ (uuid : List ℕ) (geometry : Geometry) (objects : Objects) (names : List ObjName) (is_uuid : IsUuid uuid)
+module _ (uuid : List ℕ) (geometry : Geometry) (ancestors : ℕ) (objects : Objects) (names : List ObjName) (is_uuid : IsUuid uuid)
     (listed : Lists uuid objects names) where
   abbrev volume : Expected
-  volume = expected_of uuid geometry
+  volume = expected_of uuid geometry ancestors
 
   -- a checkpoint of the store is among the names of its objects
   is_listed : (number end : ℕ) (owned : Owners) → IsCheckpointOf volume objects number end owned
@@ -131,7 +131,7 @@ module _ (uuid : List ℕ) (geometry : Geometry) (objects : Objects) (names : Li
       listed.complete (object_name volume number) (record { uuid = is_uuid; number = tt; fits = fits }) refl there
 
   -- and, where those from an index on have none, before that
-  before_index : (index : ℕ) → HasNoneFrom geometry objects names index → (number end : ℕ) (owned : Owners)
+  before_index : (index : ℕ) → HasNoneFrom geometry ancestors objects names index → (number end : ℕ) (owned : Owners)
       → IsCheckpointOf volume objects number end owned
       → (k : ℕ) × (k < index) × (k < length names)
       × (slice_index_or names k (object_name volume number) ≡ object_name volume number)
@@ -145,7 +145,7 @@ module _ (uuid : List ℕ) (geometry : Geometry) (objects : Objects) (names : Li
   -- so none is newer than the one before them
   newest_at : (index : ℕ) (name : ObjName) → index < length names → slice_index_or names index name ≡ name → name.kind ≡ Object
       → name.uuid ≡ uuid
-      → HasNoneFrom geometry objects names (index + 1) → IsNewest volume objects name.number
+      → HasNoneFrom geometry ancestors objects names (index + 1) → IsNewest volume objects name.number
   newest_at index name inside at kind of_volume none other other_end owned checkpoint =
       let place = before_index (index + 1) none other other_end owned checkpoint in
       let here : name ≡ object_name volume name.number = numbered name kind ∙ ap (λ u. numbered_name u name.number) of_volume in
@@ -169,42 +169,47 @@ module _ (uuid : List ℕ) (geometry : Geometry) (objects : Objects) (names : Li
 
 -- ---- where the store tells its objects
 
-pub found_newest : (told : Option Objects) (geometry : Geometry) (names : List ObjName) (index : ℕ) (name : ObjName)
+pub found_newest : (told : Option Objects) (geometry : Geometry) (ancestors : ℕ) (names : List ObjName) (index : ℕ)
+    (name : ObjName)
     (checkpoint : ReadCheckpoint)
     → index < length names → slice_index_or names index name ≡ name
-    → IfSome told (λ objects. HasNoneFrom geometry objects names (index + 1))
-    → IfSome told (λ objects. IsCheckpointNamed geometry objects name (Some checkpoint))
+    → IfSome told (λ objects. HasNoneFrom geometry ancestors objects names (index + 1))
+    → IfSome told (λ objects. IsCheckpointNamed geometry ancestors objects name (Some checkpoint))
     → IfSome told (λ objects. (uuid : List ℕ) → IsUuid uuid → Lists uuid objects names
-    → IsStoredCheckpoint (expected_of uuid geometry) objects checkpoint
-    × IsNewest (expected_of uuid geometry) objects checkpoint.number)
-found_newest None geometry names index name checkpoint inside at none is = tt
-found_newest (Some objects) geometry names index name checkpoint inside at none is = λ uuid is_uuid listed.
+    → IsStoredCheckpoint (expected_of uuid geometry ancestors) objects checkpoint
+    × IsNewest (expected_of uuid geometry ancestors) objects checkpoint.number)
+found_newest None geometry ancestors names index name checkpoint inside at none is = tt
+found_newest (Some objects) geometry ancestors names index name checkpoint inside at none is = λ uuid is_uuid listed.
     let of_volume = (listed.present name (index, inside, at)).1 in (
-      subst (λ u. IsStoredCheckpoint (expected_of u geometry) objects checkpoint) of_volume is.2,
-      subst (IsNewest (expected_of uuid geometry) objects) (sym is.1)
-          (newest_at uuid geometry objects names is_uuid listed index name inside at is.0 of_volume none),
+      subst (λ u. IsStoredCheckpoint (expected_of u geometry ancestors) objects checkpoint) of_volume is.2,
+      subst (IsNewest (expected_of uuid geometry ancestors) objects) (sym is.1)
+          (newest_at uuid geometry ancestors objects names is_uuid listed index name inside at is.0 of_volume none),
     )
 
-pub none_more : (told : Option Objects) (geometry : Geometry) (names : List ObjName) (index : ℕ) (name : ObjName)
+pub none_more : (told : Option Objects) (geometry : Geometry) (ancestors : ℕ) (names : List ObjName) (index : ℕ) (name : ObjName)
     → index < length names → slice_index_or names index name ≡ name
-    → IfSome told (λ objects. HasNoneFrom geometry objects names (index + 1))
-    → IfSome told (λ objects. IsCheckpointNamed geometry objects name None)
-    → IfSome told (λ objects. HasNoneFrom geometry objects names index)
-none_more None geometry names index name inside at none is = tt
-none_more (Some objects) geometry names index name inside at none is = λ k other from within there.
+    → IfSome told (λ objects. HasNoneFrom geometry ancestors objects names (index + 1))
+    → IfSome told (λ objects. IsCheckpointNamed geometry ancestors objects name None)
+    → IfSome told (λ objects. HasNoneFrom geometry ancestors objects names index)
+none_more None geometry ancestors names index name inside at none is = tt
+none_more (Some objects) geometry ancestors names index name inside at none is = λ k other from within there.
     elim (cases_lt index k) [
       | inl past ↦ none k other (omega arith) within there
       | inr to ↦
           let same : k ≡ index = omega arith in
           let one : name ≡ other =
           sym at ∙ get_or_default names index name other inside ∙ ap (λ i. slice_index_or names i other) (sym same) ∙ there in
-          subst (λ n. IsCheckpointNamed geometry objects n None) one is
+          subst (λ n. IsCheckpointNamed geometry ancestors objects n None) one is
     ]
 
-pub found_none : (told : Option Objects) (geometry : Geometry) (names : List ObjName)
-    → IfSome told (λ objects. HasNoneFrom geometry objects names 0)
+pub found_none : (told : Option Objects) (geometry : Geometry) (ancestors : ℕ) (names : List ObjName)
+    → IfSome told (λ objects. HasNoneFrom geometry ancestors objects names 0)
     → IfSome told (λ objects. (uuid : List ℕ) (number : ℕ) → IsUuid uuid → Lists uuid objects names
-    → IsNoCheckpoint (expected_of uuid geometry) objects number)
-found_none None geometry names none = tt
-found_none (Some objects) geometry names none = λ uuid number is_uuid listed end owned checkpoint.
-    absurd (omega (arith, (before_index uuid geometry objects names is_uuid listed 0 none number end owned checkpoint).1))
+    → IsNoCheckpoint (expected_of uuid geometry ancestors) objects number)
+found_none None geometry ancestors names none = tt
+found_none (Some objects) geometry ancestors names none = λ uuid number is_uuid listed end owned checkpoint.
+    absurd (omega (
+      arith,
+      (before_index uuid geometry ancestors objects names is_uuid listed 0 none number end owned
+          checkpoint).1,
+    ))

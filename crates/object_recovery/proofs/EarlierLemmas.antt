@@ -7,7 +7,7 @@ use Rattle.std.specs.List.{All, AllPairs, Contains}
 use Rattle.std.specs.List.Sorted.{IsSearchInRange, IsBinarySearchResult, IsNonDecreasingBy}
 use Rattle.std.specs.Ordering.{nat_cmp, ordering_index}
 use Rattle.std.proofs.lemmas.Cmp.{ranked}
-use Rattle.std.proofs.lemmas.Bool.{cases_lt}
+use Rattle.std.proofs.lemmas.Bool.{cases_lt, cases_eq}
 use Rattle.std.proofs.lemmas.Bool.Decides.{nat_tests}
 use Rattle.std.proofs.lemmas.List.{get_or-map, length-map}
 use Rattle.std.proofs.lemmas.List.Elements.{All-map, All-head, All-tail, Contains-get_or}
@@ -21,7 +21,8 @@ use Rattle.extent_map.proofs.Order.{past_front}
 use Rattle.ckpt_format.specs.declared.place.StoredPlace.{StoredPlace}
 use Rattle.ckpt_format.specs.Places.{stored_on}
 use Rattle.object_recovery.specs.Earlier.{EarlierObject, AreEarlier, IsStoredThere, HasEarlier, AreAllEarlier, IsReached}
-use Rattle.object_recovery.specs.Earlier.{ReachedBy, ReachAll, but_reach, AreSameObjects, reached_to, IsReachedBy, NamesNone}
+use Rattle.object_recovery.specs.Earlier.{ReachedBy, ReachAll, but_reach, AreSameObjects, reached_to, IsReachedBy, IsReachedIfOwn}
+use Rattle.object_recovery.specs.Earlier.{NamesNone}
 
 -- objects by ascending number
 abbrev pub Ascend : List EarlierObject → Type 0
@@ -226,8 +227,15 @@ last_place rows row k shortest low high =
 
 -- ---- rows and reaches
 
+reached_before : (rows : List (Extent StoredPlace)) (row : Extent StoredPlace) (e : EarlierObject) → ReachedBy rows e
+    → ReachedBy (rows ++ row ∷ []) e
+reached_before rows row e by some_reach =
+    let is = by some_reach in
+    (is.0, is.1, place_kept rows (row ∷ []) is.0 is.1 is.2, is.3, is.4, is.5)
+
 module _ (rows : List (Extent StoredPlace)) (row : Extent StoredPlace) (old new : List EarlierObject)
-    (shortest : IsShortest stored_on (rows ++ row ∷ [])) (some : 0 < row.sectors) (reached : IsReachedBy row old new) where
+    (shortest : IsShortest stored_on (rows ++ row ∷ [])) (some : 0 < row.sectors) (own : row.place.level ≡ 0)
+    (reached : IsReachedBy row old new) where
   abbrev number : ℕ
   number = row.place.number
 
@@ -260,47 +268,45 @@ module _ (rows : List (Extent StoredPlace)) (row : Extent StoredPlace) (old new 
       → stored_on (k - row.lba) row.place ≡ place → IsReached new place
   place_last k place within is =
       let e = reached.there.0 in
-      let own = own_reach number end e reached.there.2 in
+      let its = own_reach number end e reached.there.2 in
       let low : row.lba ≤ k = grind (arith, nat_tests) in
       let high : k < row.lba + row.sectors = grind (arith, nat_tests) in
       let at : row.place.place + (k - row.lba) ≡ place.place = ap (λ (p : StoredPlace). p.place) is in
       let same : number ≡ place.number = ap (λ (p : StoredPlace). p.number) is in
-      let reach : (reached_to number end e).reach ≡ max e.reach end = ap (λ (o : EarlierObject). o.reach) own in
-      let numbered : (reached_to number end e).number ≡ e.number = ap (λ (o : EarlierObject). o.number) own in
+      let reach : (reached_to number end e).reach ≡ max e.reach end = ap (λ (o : EarlierObject). o.reach) its in
+      let numbered : (reached_to number end e).number ≡ e.number = ap (λ (o : EarlierObject). o.number) its in
       (reached_to number end e, goes_on e reached.there.1, numbered ∙ reached.there.2 ∙ same, omega (arith, low, high, at, reach))
 
   reach_before : (e : EarlierObject) → ReachedBy rows e → ReachedBy (rows ++ row ∷ []) e
-  reach_before e by some_reach =
-      let is = by some_reach in
-      (is.0, is.1, place_kept rows (row ∷ []) is.0 is.1 is.2, is.3, is.4)
+  reach_before e by some_reach = reached_before rows row e by some_reach
 
   reach_own : (e : EarlierObject) → e.number ≡ number → ReachedBy rows e
       → ReachedBy (rows ++ row ∷ []) (record e { reach = max e.reach end })
-  reach_own e own by some_reach =
+  reach_own e is_it by some_reach =
       elim (cases_lt e.reach end) [
         | inl low ↦
             let k = row.lba + (row.sectors - 1) in
             let on : k - row.lba ≡ row.sectors - 1 = omega arith in
             let is = last_place rows row k shortest (omega arith) (omega (arith, some)) in
             let step : (row.place.place + (k - row.lba)) + 1 ≡ max e.reach end = omega (arith, some, low, on) in
-            (k, stored_on (k - row.lba) row.place, is, sym own, step)
+            (k, stored_on (k - row.lba) row.place, is, own, sym is_it, step)
         | inr high ↦
             let same : max e.reach end ≡ e.reach = omega (arith, high) in
             let is = reach_before e by (λ zero_reach. some_reach (same ∙ zero_reach)) in
-            (is.0, is.1, is.2, is.3, is.4 ∙ sym same)
+            (is.0, is.1, is.2, is.3, is.4, is.5 ∙ sym same)
       ]
 
   reach_by : (e : EarlierObject) (b : Bool) → (e.number == number) ≡ b → ReachedBy rows e
       → ReachedBy (rows ++ row ∷ []) (cond b (record e { reach = max e.reach end }) e)
-  reach_by e true is by = let own : e.number ≡ number = grind (arith, nat_tests) in reach_own e own by
+  reach_by e true is by = let is_it : e.number ≡ number = grind (arith, nat_tests) in reach_own e is_it by
   reach_by e false is by = reach_before e by
 
   -- so a row more is reached
-  pub reach_more : ReachAll rows old → ReachAll (rows ++ row ∷ []) new
-  reach_more reach = record {
-    all = λ k place is.
+  reach_one : ReachAll rows old → ReachAll (rows ++ row ∷ []) new
+  reach_one reach = record {
+    all = λ k place is level.
         elim (place_split rows row k place is) [
-          | inl before ↦ place_before place (reach.all k place before)
+          | inl before ↦ place_before place (reach.all k place before level)
           | inr last ↦ place_last k place last.0 last.1
         ];
     by =
@@ -309,22 +315,56 @@ module _ (rows : List (Extent StoredPlace)) (row : Extent StoredPlace) (old new 
         (λ i d inside. reach_by (get_or old i d) ((get_or old i d).number == number) refl (reach.by i d inside)));
   }
 
+-- a row of an ancestor's object reaches none
+reach_other : (rows : List (Extent StoredPlace)) (row : Extent StoredPlace) (earlier : List EarlierObject)
+    → (row.place.level ≡ 0 → ⊥) → ReachAll rows earlier → ReachAll (rows ++ row ∷ []) earlier
+reach_other rows row earlier other reach = record {
+  all = λ k place is level.
+      elim (place_split rows row k place is) [
+        | inl before ↦ reach.all k place before level
+        | inr last ↦ absurd (other (ap (λ (p : StoredPlace). p.level) last.1 ∙ level))
+      ];
+  by = λ i d inside. reached_before rows row (get_or earlier i d) (reach.by i d inside);
+}
+
+pub reach_more : (rows : List (Extent StoredPlace)) (row : Extent StoredPlace) (old new : List EarlierObject)
+    → IsShortest stored_on (rows ++ row ∷ []) → 0 < row.sectors → IsReachedIfOwn row old new → ReachAll rows old
+    → ReachAll (rows ++ row ∷ []) new
+reach_more rows row old new shortest some reached reach =
+    elim (cases_eq row.place.level 0) [
+      | inl own ↦ reach_one rows row old new shortest some own (reached.own own) reach
+      | inr other ↦ subst (ReachAll (rows ++ row ∷ [])) (sym (reached.other other)) (reach_other rows row old other reach)
+    ]
+
+-- so the objects stay the same
+pub same_if_own : (row : Extent StoredPlace) (old new : List EarlierObject) → IsReachedIfOwn row old new
+    → AreSameObjects old new
+same_if_own row old new reached =
+    elim (cases_eq row.place.level 0) [
+      | inl own ↦ (
+          let is = reached.own own in
+          ap (map but_reach) is.reached ∙ same_reached row.place.number (row.place.place + row.sectors) old)
+      | inr other ↦ ap (map but_reach) (reached.other other)
+    ]
+
 -- no rows reach no object
 pub reach_none : (earlier : List EarlierObject) → All (λ (e : EarlierObject). e.reach ≡ 0) earlier → ReachAll [] earlier
 reach_none earlier none = record {
-  all = λ k place is. absurd cc;
+  all = λ k place is level. absurd cc;
   by = λ i d inside some. absurd (some (none i d inside));
 }
 
 -- a row whose object is not there
 pub names_none : (rows more : List (Extent StoredPlace)) (row : Extent StoredPlace) (earlier : List EarlierObject)
-    → IsShortest stored_on (rows ++ row ∷ []) → 0 < row.sectors → (HasEarlier earlier row.place.number → ⊥)
+    → IsShortest stored_on (rows ++ row ∷ []) → 0 < row.sectors → row.place.level ≡ 0
+    → (HasEarlier earlier row.place.number → ⊥)
     → NamesNone ((rows ++ row ∷ []) ++ more) earlier row.place.number
-names_none rows more row earlier shortest some none = record {
+names_none rows more row earlier shortest some own none = record {
   k = row.lba;
   place = stored_on (row.lba - row.lba) row.place;
   row =
       place_kept (rows ++ row ∷ []) more row.lba _ (last_place rows row row.lba shortest (omega arith) (omega (arith, some)));
+  own = own;
   named = refl;
   none = none;
 }

@@ -1,20 +1,22 @@
 -- What a list knows of the holds of a store once what they keep was marked.
-use Rattle.std.proofs.Common.{◌≡◌, ℕ, ◌+◌, ◌<◌, ◌≤◌, inl, inr, Bool, true, false, Option, Some, List, length, get_or}
+use Rattle.std.proofs.Common.{◌≡◌, ℕ, ◌+◌, ◌^◌, ◌<◌, ◌≤◌, inl, inr, Bool, true, false, Option, Some, None, List, length, get_or}
 use Rattle.std.proofs.Common.{refl, sym, ◌∙◌, ap, subst, arith}
 use Rattle.std.specs.Prelude.{IsTrue, is_some, ◌↔◌, IfSome}
 use Rattle.std.proofs.lemmas.Bool.{cases_lt, both_ways}
 use Rattle.std.proofs.lemmas.List.{get_or_default}
 use Rattle.std.proofs.lemmas.Map.Keys.{Less-from_sorted}
+use Rattle.clone_chain.specs.declared.ancestor.Ancestor.{Ancestor}
 use Rattle.lsvd_base.specs.declared.geometry.Geometry.{Geometry}
 use Rattle.lsvd_base.specs.Image.{Image}
 use Rattle.lsvd_names.specs.declared.name.NameKind.{NameKind}
 use Rattle.lsvd_names.specs.declared.name.NameKind.TheVariants.{Hold}
 use Rattle.lsvd_names.specs.declared.name.ObjName.{ObjName}
-use Rattle.lsvd_names.specs.Names.{hold_name}
+use Rattle.lsvd_names.specs.Names.{hold_name, numbered_name}
 use Rattle.lsvd_names.specs.Spelling.{IsUuid}
-use Rattle.lsvd_objstore.specs.Objects.{Objects, name_cmp, AreNamesOf, Lists}
+use Rattle.lsvd_objstore.specs.Objects.{Objects, found, name_cmp, AreNamesOf, Lists}
 use Rattle.object_format.specs.declared.expected.Expected.{Expected}
 use Rattle.object_stream.specs.Stream.{Stream, is_own}
+use Rattle.stopped_volume.specs.Ancestors.{uuid_in_chain}
 use Rattle.stopped_volume.specs.Holds.{IsHeld, IsKept}
 use Rattle.object_table.specs.declared.row.ObjectRow.{ObjectRow}
 use Rattle.object_table.specs.Table.{row_of, held}
@@ -25,13 +27,14 @@ use Rattle.obj_log.specs.State.{ObjLogState}
 use Rattle.obj_log.specs.Changes.{expected_of_volume}
 use Rattle.obj_log.proofs.StreamLemmas.{removals_keep_stream}
 use Rattle.object_recovery.specs.declared.error.RecoverError.{RecoverError}
+use Rattle.object_recovery.specs.declared.error.RecoverError.TheVariants as errors
 use Rattle.object_recovery.specs.Checkpoints.{expected_of}
 use Rattle.object_recovery.specs.Earlier.{IsAmongFirst}
 use Rattle.object_recovery.specs.Holding.{IsMarked, MarksKept, IsHoldAmong, RefusesOrFails, RefusesAmong, RefusesHolds}
 use Rattle.object_recovery.specs.Judging.{HaveLanded}
 use Rattle.object_recovery.specs.Places.{HasPlacesInside}
 use Rattle.object_recovery.specs.Recovery.{IsListUpTo, up_to_object, HasStreamTo, IsNoLonger, IsLastLanded, AreNamedWholePast}
-use Rattle.object_recovery.specs.Recovery.{IsRecoveryRefused}
+use Rattle.object_recovery.specs.Recovery.{IsRecoveryRefused, RefusesNoStream}
 use Rattle.object_recovery.specs.Recovering.{Recovers, RecoveredOf, IsHoldRefused, IsRefusedThere}
 use Rattle.object_recovery.specs.Table.{HasTableUnheld, HasPayloadThere, KnowsObjects, KnowsHolds}
 use Rattle.object_recovery.proofs.CheckpointLemmas.{hold_order}
@@ -42,6 +45,7 @@ use Rattle.object_recovery.proofs.MarkLemmas.{IsStill, marked_still, same_last, 
 use Rattle.object_recovery.proofs.MarkLemmas.{table_still, row_still, row_now, held_in}
 use Rattle.object_recovery.proofs.MarkLemmas.{was_marked, now_marked}
 use Rattle.object_recovery.proofs.PlaceLemmas.{so_some, some_so}
+use Rattle.object_recovery.proofs.RecoverLemmas.{hold_places}
 use Rattle.object_recovery.proofs.RefusalLemmas.{volume_is, no_answer_refused}
 use Rattle.object_recovery.proofs.TableLemmas.{same_presence}
 
@@ -75,9 +79,9 @@ module _ (volume : Expected) (objects : Objects) (base : ℕ) (old new : ObjLogS
         (λ row mark is. is) (λ row is. is) n (was.unmapped end owned checkpoint n);
     places = λ end owned checkpoint k place at low.
         was.places end owned checkpoint k place (sym (settled_still old new batch still k) ∙ at) low;
-    payloads = λ k place at.
+    payloads = λ k place at own.
         same_row (λ (row : ObjectRow). HasPayloadThere volume objects place.number row.payload) (λ row mark is. is)
-        (λ row is. is) place.number (was.payloads k place (sym (settled_still old new batch still k) ∙ at));
+        (λ row is. is) place.number (was.payloads k place (sym (settled_still old new batch still k) ∙ at) own);
   }
 
   stream_still : (opening : Image) (stream : Stream) (number : ℕ) → HasStreamTo opening stream number old
@@ -92,14 +96,16 @@ module _ (volume : Expected) (objects : Objects) (base : ℕ) (old new : ObjLogS
   last_is : old.uploads.window.last ≡ new.uploads.window.last
   last_is = sym (same_last old new batch still)
 
-  pub recovers_still : Recovers volume base objects old → Recovers volume base objects new
-  recovers_still is = record {
+  pub recovers_still : (uuid_at : ℕ → Option (List ℕ)) (absent : Option (List ℕ))
+      → Recovers volume uuid_at base objects old absent
+      → Recovers volume uuid_at base objects new absent
+  recovers_still uuid_at absent is = record {
     checkpoint = is.checkpoint;
     recovered = λ low.
         let was = is.recovered (omega (arith, low, last_is)) in
         record {
-          streams = λ uuid_at stream opening number has.
-              let found = was.streams uuid_at stream opening number has in
+          streams = λ stream opening number has.
+              let found = was.streams stream opening number has in
               record {
                 number_is = sym last_is ∙ found.number_is;
                 end_is = still.rest.end ∙ found.end_is;
@@ -107,12 +113,12 @@ module _ (volume : Expected) (objects : Objects) (base : ℕ) (old new : ObjLogS
               };
           last = subst (IsLastLanded volume objects) last_is was.last;
         };
-    no_longer = subst (IsNoLonger volume objects) last_is is.no_longer;
+    no_longer = subst (IsNoLonger volume uuid_at objects) last_is is.no_longer;
     landed = subst (HaveLanded objects volume base) last_is is.landed;
     good = is.good;
     past = subst (AreNamedWholePast volume objects) last_is is.past;
     knows = knows_still is.knows;
-    named = is.named;
+    finds = is.finds;
   }
 
 -- ---- names of holds, one by one
@@ -192,10 +198,10 @@ refused_among names number volume told error among have refuses =
 
 -- ---- names of holds
 
-module _ (uuid : List ℕ) (geometry : Geometry) (objects : Objects) (names : List ObjName) (is_uuid : IsUuid uuid)
-    (listed : Lists uuid objects names) where
+module _ (uuid : List ℕ) (geometry : Geometry) (ancestors : ℕ) (objects : Objects) (names : List ObjName)
+    (is_uuid : IsUuid uuid) (listed : Lists uuid objects names) where
   abbrev volume_of : Expected
-  volume_of = expected_of uuid geometry
+  volume_of = expected_of uuid geometry ancestors
 
   held_listed : (n : ℕ) → IsHeld volume_of objects n → IsHoldAmong uuid names n
   held_listed n is =
@@ -234,12 +240,13 @@ module _ (uuid : List ℕ) (geometry : Geometry) (objects : Objects) (names : Li
             ]
       ]
 
-  hold_refused : (base : ℕ) (log : ObjLogState) (error : RecoverError) → Recovers volume_of base objects log
-      → RefusesAmong volume_of objects names error
-      → IsHoldRefused volume_of objects error
-  hold_refused base log error recovers is = record {
+  hold_refused : (uuid_at : ℕ → Option (List ℕ)) (base : ℕ) (log : ObjLogState) (absent : Option (List ℕ)) (error : RecoverError)
+      → Recovers volume_of uuid_at base objects log absent → RefusesAmong volume_of objects names error
+      → IsHoldRefused volume_of uuid_at objects error
+  hold_refused uuid_at base log absent error recovers is = record {
     base = base;
     log = log;
+    absent = absent;
     recovers = recovers;
     number = is.number;
     is_held = listed_held is.number is.among;
@@ -249,11 +256,45 @@ module _ (uuid : List ℕ) (geometry : Geometry) (objects : Objects) (names : Li
     refuses = is.refuses;
   }
 
-  pub refused_there : (base : ℕ) (log : ObjLogState) (error : RecoverError) → Recovers volume_of base objects log
-      → RefusesHolds volume_of objects names error
-      → IsRefusedThere volume_of objects error
-  refused_there base log error recovers (inl none) = inl (no_answer_refused volume_of objects error none)
-  refused_there base log error recovers (inr is) = inr (hold_refused base log error recovers is)
+  pub refused_there : (uuid_at : ℕ → Option (List ℕ)) (base : ℕ) (log : ObjLogState) (absent : Option (List ℕ))
+      (error : RecoverError)
+      → Recovers volume_of uuid_at base objects log absent → RefusesHolds volume_of objects names error
+      → IsRefusedThere volume_of uuid_at objects error
+  refused_there uuid_at base log absent error recovers (inl none) =
+      inl (no_answer_refused volume_of uuid_at objects error none)
+  refused_there uuid_at base log absent error recovers (inr is) =
+      inr (inl (hold_refused uuid_at base log absent error recovers is))
+
+  -- ---- an object that an ancestor lacks
+
+  -- no stream of the store names it
+  base_no_stream : (uuid_at : ℕ → Option (List ℕ)) (base : ℕ) (log : ObjLogState) (lacks : List ℕ) → geometry.sectors < 2 ^ 64
+      → Recovers volume_of uuid_at base objects log (Some lacks)
+      → RefusesNoStream volume_of uuid_at objects (errors.BaseMissing lacks)
+  base_no_stream uuid_at base log lacks wide recovers stream opening number has is =
+      let newest = recovers.checkpoint.1 in
+      let missing = (recovers.finds recovers.checkpoint.0 newest.owned newest.is).missing in
+      let hold = hold_places volume_of objects base recovers.checkpoint.0 wide newest uuid_at stream opening number has in
+      let sector = (hold missing.k missing.place missing.row).has in
+      let same : Some sector.expected.uuid ≡ Some lacks = sym sector.level ∙ missing.of in
+      let uuids : sector.expected.uuid ≡ lacks = cc in
+      let there : found objects (numbered_name lacks missing.place.number) ≡ Some sector.bytes =
+      ap (λ (u : List ℕ). found objects (numbered_name u missing.place.number)) (sym uuids) ∙ sector.present in
+      let none = missing.absent in
+      absurd cc
+
+  pub base_refused : (uuid_at : ℕ → Option (List ℕ)) (base : ℕ) (log : ObjLogState) (lacks : List ℕ) → geometry.sectors < 2 ^ 64
+      → Recovers volume_of uuid_at base objects log (Some lacks) → HaveCheckpoints volume_of (IsHoldAmong uuid names) objects
+      → IsRefusedThere volume_of uuid_at objects (errors.BaseMissing lacks)
+  base_refused uuid_at base log lacks wide recovers have = inr (inr (record {
+    base = base;
+    log = log;
+    uuid = lacks;
+    recovers = recovers;
+    holds = λ n held. have n (held_listed n held);
+    is = refl;
+    no_stream = base_no_stream uuid_at base log lacks wide recovers;
+  }))
 
   -- ---- what the table knows
 
@@ -299,34 +340,46 @@ module _ (uuid : List ℕ) (geometry : Geometry) (objects : Objects) (names : Li
 -- ---- where the store tells its objects
 
 -- the objects are refused before any hold is
-pub told_refused_first : (told : Option Objects) (volume : Expected) (error : RecoverError)
-    → IfSome told (λ objects. IsRecoveryRefused volume objects error)
-    → IfSome told (λ objects. IsRefusedThere volume objects error)
-told_refused_first told volume error refused =
-    told_so (λ objects. IsRecoveryRefused volume objects error) (λ objects. IsRefusedThere volume objects error) told
-    (λ objects is. inl is) refused
+pub told_refused_first : (told : Option Objects) (volume : Expected) (uuid_at : ℕ → Option (List ℕ)) (error : RecoverError)
+    → IfSome told (λ objects. IsRecoveryRefused volume uuid_at objects error)
+    → IfSome told (λ objects. IsRefusedThere volume uuid_at objects error)
+told_refused_first told volume uuid_at error refused =
+    told_so (λ objects. IsRecoveryRefused volume uuid_at objects error) (λ objects. IsRefusedThere volume uuid_at objects error)
+    told (λ objects is. inl is) refused
 
-module _ (Tells : Type 0) (uuid : List ℕ) (geometry : Geometry) (told : Option Objects) (names : List ObjName)
-    (base : ℕ) (log : ObjLogState) (is_uuid : IsUuid uuid) (lists : IfSome told (λ objects. Lists uuid objects names))
-    (list : IsListUpTo uuid geometry log.uploads.window.last log.uploads.queue.end log)
-    (recovers : Tells → IfSome told (λ objects. Recovers (expected_of uuid geometry) base objects log)) where
+module _ (Tells : Type 0) (uuid : List ℕ) (geometry : Geometry) (chain : List Ancestor) (told : Option Objects)
+    (names : List ObjName) (base : ℕ) (log : ObjLogState) (absent : Option (List ℕ)) (is_uuid : IsUuid uuid)
+    (lists : IfSome told (λ objects. Lists uuid objects names))
+    (list : IsListUpTo uuid geometry (length chain) log.uploads.window.last log.uploads.queue.end log)
+    (recovers : Tells → IfSome told (λ objects.
+    Recovers (expected_of uuid geometry (length chain)) (uuid_in_chain uuid chain) base objects log absent)) where
   abbrev volume_is_this : Expected
-  volume_is_this = expected_of uuid geometry
+  volume_is_this = expected_of uuid geometry (length chain)
+
+  abbrev uuid_of : ℕ → Option (List ℕ)
+  uuid_of = uuid_in_chain uuid chain
 
   same_volume : expected_of_volume log ≡ volume_is_this
-  same_volume = volume_is uuid geometry log.uploads.window.last log.uploads.queue.end log list
+  same_volume = volume_is uuid geometry (length chain) log.uploads.window.last log.uploads.queue.end log list
+
+  listed_and_recovered : Tells
+      → IfSome told (λ objects. Lists uuid objects names × Recovers volume_is_this uuid_of base objects log absent)
+  listed_and_recovered tells =
+      both_so (λ objects. Lists uuid objects names) (λ objects. Recovers volume_is_this uuid_of base objects log absent)
+      (λ objects. Lists uuid objects names × Recovers volume_is_this uuid_of base objects log absent) told
+      (λ objects a b. (a, b)) lists (recovers tells)
 
   -- the checkpoint of a hold is refused
   pub told_refused_there : (error : RecoverError) → Tells
       → IfSome told (λ objects. RefusesHolds (expected_of_volume log) objects names error)
-      → IfSome told (λ objects. IsRefusedThere volume_is_this objects error)
+      → IfSome told (λ objects. IsRefusedThere volume_is_this uuid_of objects error)
   told_refused_there error tells refuses =
-      both_so (λ objects. Lists uuid objects names × Recovers volume_is_this base objects log)
-      (λ objects. RefusesHolds volume_is_this objects names error) (λ objects. IsRefusedThere volume_is_this objects error) told
-      (λ objects both is. refused_there uuid geometry objects names is_uuid both.0 base log error both.1 is)
-      (both_so (λ objects. Lists uuid objects names) (λ objects. Recovers volume_is_this base objects log)
-      (λ objects. Lists uuid objects names × Recovers volume_is_this base objects log) told (λ objects a b. (a, b)) lists
-      (recovers tells))
+      both_so (λ objects. Lists uuid objects names × Recovers volume_is_this uuid_of base objects log absent)
+      (λ objects. RefusesHolds volume_is_this objects names error)
+      (λ objects. IsRefusedThere volume_is_this uuid_of objects error) told
+      (λ objects both is.
+      refused_there uuid geometry (length chain) objects names is_uuid both.0 uuid_of base log absent error both.1 is)
+      (listed_and_recovered tells)
       (subst (λ v. IfSome told (λ objects. RefusesHolds v objects names error)) same_volume refuses)
 
   module _ (new : ObjLogState) (table : HasTableUnheld base log.uploads.queue)
@@ -348,25 +401,39 @@ module _ (Tells : Type 0) (uuid : List ℕ) (geometry : Geometry) (told : Option
         (AreKeptBy volume_is_this (IsHoldAmong uuid names) marks_here.numbers)
         (λ objects. KnowsHolds volume_is_this objects new.uploads.queue) told
         (λ objects both kept.
-        knows_holds uuid geometry objects names is_uuid both.0 base log new marks_here.numbers marks_here.marked table both.1
-        kept)
+        knows_holds uuid geometry (length chain) objects names is_uuid both.0 base log new marks_here.numbers marks_here.marked
+        table both.1 kept)
         (both_so (λ objects. Lists uuid objects names) (HaveCheckpoints volume_is_this (IsHoldAmong uuid names))
         (λ objects. Lists uuid objects names × HaveCheckpoints volume_is_this (IsHoldAmong uuid names) objects) told
         (λ objects a b. (a, b)) lists (marks_here.checkpoints tells)) (marks_here.kept tells)
 
-    recovers_told : Tells → IfSome told (λ objects. Recovers volume_is_this base objects new)
+    recovers_told : Tells → IfSome told (λ objects. Recovers volume_is_this uuid_of base objects new absent)
     recovers_told tells =
-        told_so (λ objects. Recovers volume_is_this base objects log) (λ objects. Recovers volume_is_this base objects new) told
-        (λ objects is. recovers_still volume_is_this objects base log new marked.batch still_there is) (recovers tells)
+        told_so (λ objects. Recovers volume_is_this uuid_of base objects log absent)
+        (λ objects. Recovers volume_is_this uuid_of base objects new absent) told
+        (λ objects is. recovers_still volume_is_this objects base log new marked.batch still_there uuid_of absent is)
+        (recovers tells)
+
+    -- an ancestor lacks an object that the checkpoint maps
+    pub told_base_missing : (lacks : List ℕ) → absent ≡ Some lacks → geometry.sectors < 2 ^ 64 → Tells
+        → IfSome told (λ objects. IsRefusedThere volume_is_this uuid_of objects (errors.BaseMissing lacks))
+    told_base_missing lacks is wide tells =
+        both_so (λ objects. Lists uuid objects names × Recovers volume_is_this uuid_of base objects log absent)
+        (HaveCheckpoints volume_is_this (IsHoldAmong uuid names))
+        (λ objects. IsRefusedThere volume_is_this uuid_of objects (errors.BaseMissing lacks)) told
+        (λ objects both have.
+        base_refused uuid geometry (length chain) objects names is_uuid both.0 uuid_of base log lacks wide
+        (subst (Recovers volume_is_this uuid_of base objects log) is both.1) have)
+        (listed_and_recovered tells) (marks_here.checkpoints tells)
 
     -- the list was recovered, and what holds keep is marked
-    pub recovered_with_holds : AreNamesOf uuid names → base ≤ log.uploads.window.last → IsUploads log.uploads
+    pub recovered_with_holds : absent ≡ None → AreNamesOf uuid names → base ≤ log.uploads.window.last → IsUploads log.uploads
         → HasPlacesInside geometry.sectors log.uploads.queue
-        → RecoveredOf Tells uuid geometry told (record { log = new; checkpoint = base; names = names })
-    recovered_with_holds names_of from order places =
+        → RecoveredOf Tells uuid geometry chain told (record { log = new; checkpoint = base; names = names })
+    recovered_with_holds whole names_of from order places =
         let own : uuid ≡ new.uploads.uuid = sym (still_there.rest.uuid ∙ list.uuid_is) in
         record {
-          list = list_still log new marked.batch still_there uuid geometry list;
+          list = list_still log new marked.batch still_there uuid geometry (length chain) list;
           from = subst (λ n. base ≤ n) (sym (same_last log new marked.batch still_there)) from;
           order = changes_keep_uploads held marks.numbers log.uploads new.uploads order marked.marks;
           places = places_still log new marked.batch still_there geometry.sectors places;
@@ -376,5 +443,7 @@ module _ (Tells : Type 0) (uuid : List ℕ) (geometry : Geometry) (told : Option
             listed = subst (λ u. IfSome told (λ objects. Lists u objects names)) own lists;
           };
           holds = holds_told;
-          told = recovers_told;
+          told = λ tells.
+              subst (λ a. IfSome told (λ objects. Recovers volume_is_this uuid_of base objects new a)) whole
+              (recovers_told tells);
         }

@@ -1,7 +1,7 @@
 -- What the checkpoints of holds keep, and why one is refused.
-use Rattle.std.proofs.Common.{◌≡◌, ℕ, zero, suc, ◌+◌, ◌-◌, ◌<◌, ◌≤◌, ◌==◌, ◌&&◌, inl, inr, Bool, true, false, cond, Option, Some}
+use Rattle.std.proofs.Common.{◌≡◌, ℕ, zero, suc, ◌<◌, ◌==◌, ◌&&◌, inl, inr, Bool, true, false, cond, Option, Some}
 use Rattle.std.proofs.Common.{None, List, [], ◌∷◌, ◌++◌, length, refl, sym, ◌∙◌, ap, subst, arith}
-use Rattle.std.specs.Prelude.{IsTrue, ◌⊎◌, ◌↔◌, option_map, IfSome, Result, Ok, Err, OnErr}
+use Rattle.std.specs.Prelude.{◌⊎◌, ◌↔◌, option_map, IfSome, Result, Ok, Err, OnErr}
 use Rattle.std.specs.Option.{IsSome}
 use Rattle.std.specs.List.{Contains}
 use Rattle.std.proofs.lemmas.Bool.Decides.{nat_tests}
@@ -21,7 +21,7 @@ use Rattle.ckpt_format.specs.Checkpoint.{IsCheckpoint}
 use Rattle.ckpt_format.specs.Places.{stored_on}
 use Rattle.ckpt_format.specs.Reading.{PassesCheckpointTest, IsCheckpointRefusedAs}
 use Rattle.object_stream.specs.Replay.{object_name}
-use Rattle.object_stream.specs.Stream.{Owners, is_own}
+use Rattle.object_stream.specs.Stream.{is_own}
 use Rattle.stopped_volume.specs.Expected.{expected_alone}
 use Rattle.stopped_volume.specs.Holds.{HasCheckpoint, IsMappedBy, IsKeptBy}
 use Rattle.stopped_volume.specs.Opening.{stored_owner, owned_by, IsCheckpointOf}
@@ -31,7 +31,7 @@ use Rattle.object_uploads.specs.Removal.{HasChangedRow}
 use Rattle.obj_log.specs.State.{ObjLogState}
 use Rattle.object_recovery.specs.declared.error.RecoverError.{RecoverError}
 use Rattle.object_recovery.specs.declared.error.RecoverError.TheVariants as errors
-use Rattle.object_recovery.specs.Holding.{IsMarked, own_numbers, MarksNamed, MarksRows, MarksKept, RefusesHeld, RefusesOrFails}
+use Rattle.object_recovery.specs.Holding.{IsMarked, own_numbers, MarksNamed, MarksRows, MarksKept, RefusesOrFails}
 use Rattle.object_recovery.specs.Read.{IsWhyNotRead, HasNoHeader}
 use Rattle.object_recovery.proofs.EarlierLemmas.{place_split, place_kept, last_place}
 use Rattle.object_recovery.proofs.FindLemmas.{of_told, told_so}
@@ -385,6 +385,7 @@ module _ (volume : Expected) (objects : Objects) (number : ℕ) (receipt : Recei
         not_there = none_there volume objects number bytes finds.1 (λ end rows is. no_header _ is.head);
       })
   unread (errors.MissingObject other) why none = absurd why
+  unread (errors.BaseMissing uuid) why none = absurd why
   unread errors.StoreFault why none = inl tt
   unread errors.OutOfMemory why none = inl tt
 

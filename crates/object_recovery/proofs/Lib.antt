@@ -3,6 +3,9 @@ pub mod EndLemmas
 pub mod FindLemmas
 pub mod CheckpointLemmas
 pub mod EarlierLemmas
+pub mod NamedLemmas
+pub mod NamedRows
+pub mod InheritedLemmas
 pub mod TakenLemmas
 pub mod PartLemmas
 pub mod RowLemmas
@@ -25,6 +28,7 @@ pub mod PayloadLemmas
 pub mod TableLemmas
 pub mod RecoverLemmas
 pub mod BegunTable
+pub mod FoundPlaces
 pub mod LivePayloads
 pub mod BeginLemmas
 pub mod RefusalLemmas

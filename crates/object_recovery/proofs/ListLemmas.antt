@@ -50,26 +50,37 @@ none_settled number size end sealed_rows.Checkpoint old new settles none k =
     ap (λ (map : MapState LogPlace). place_at log_on map.rows k) settles.log ∙ none k
 
 -- a list is one of its own uuid and its own sizes
-pub own_list : (uuid : List ℕ) (geometry : Geometry) (number end : ℕ) (log : ObjLogState)
-    → IsListUpTo uuid geometry number end log
-    → IsListUpTo log.uploads.uuid log.batch.geometry log.uploads.window.last log.uploads.queue.end log
-own_list uuid geometry number end log is =
-    subst (λ u. IsListUpTo u log.batch.geometry log.uploads.window.last log.uploads.queue.end log) (sym is.uuid_is)
-    (subst (λ g. IsListUpTo uuid g log.uploads.window.last log.uploads.queue.end log) (sym is.geometry_is)
-    (subst (λ n. IsListUpTo uuid geometry n log.uploads.queue.end log) (sym (ap (λ (w : WindowState). w.last) is.window))
-    (subst (λ e. IsListUpTo uuid geometry number e log) (sym is.end_is) is)))
+pub own_list : (uuid : List ℕ) (geometry : Geometry) (ancestors number end : ℕ) (log : ObjLogState)
+    → IsListUpTo uuid geometry ancestors number end log
+    → IsListUpTo log.uploads.uuid log.batch.geometry log.uploads.ancestors log.uploads.window.last log.uploads.queue.end log
+own_list uuid geometry ancestors number end log is = record {
+  uuid_is = refl;
+  ancestors_are = refl;
+  geometry_is = refl;
+  sectors = is.sectors ∙ ap (λ (sizes : Geometry). sizes.sectors) (sym is.geometry_is);
+  first = is.first ∙ sym is.end_is;
+  entries = is.entries;
+  window = is.window ∙ ap (λ (n : ℕ). let window : WindowState = record { last = n; objects = [] } in window)
+      (sym (ap (λ (w : WindowState). w.last) is.window));
+  frontier = is.frontier ∙ sym (ap (λ (w : WindowState). w.last) is.window);
+  end_is = refl;
+  sealed = is.sealed;
+  logged = is.logged;
+}
 
 -- and with the next object it is one
-pub list_more : (uuid : List ℕ) (geometry : Geometry) (number before end : ℕ) (rows : SealedRows) (receipt : ReceiptState)
+pub list_more : (uuid : List ℕ) (geometry : Geometry) (ancestors number before end : ℕ) (rows : SealedRows)
+    (receipt : ReceiptState)
     (old new : ObjLogState)
-    → IsListUpTo uuid geometry number before old → HasAdoptedObject rows end receipt old new
-    → IsListUpTo uuid geometry new.uploads.window.last new.uploads.queue.end new
-list_more uuid geometry number before end rows receipt old new is adopted =
+    → IsListUpTo uuid geometry ancestors number before old → HasAdoptedObject rows end receipt old new
+    → IsListUpTo uuid geometry ancestors new.uploads.window.last new.uploads.queue.end new
+list_more uuid geometry ancestors number before end rows receipt old new is adopted =
     let now = adopted.uploads in
     let last : new.uploads.window.last ≡ old.uploads.window.last + 1 = ap (λ (w : WindowState). w.last) now.window in
     let was : old.uploads.window.last ≡ number = ap (λ (w : WindowState). w.last) is.window in
     record {
       uuid_is = now.uuid ∙ is.uuid_is;
+      ancestors_are = now.ancestors ∙ is.ancestors_are;
       geometry_is = adopted.geometry ∙ is.geometry_is;
       sectors = now.sectors ∙ is.sectors;
       first = adopted.first ∙ sym now.settled.ends;
@@ -97,13 +108,15 @@ keeps_more volume objects a b c first second uuid_at stream opening number has f
     (omega (arith, mid.0, last.0), last.1, last.2)
 
 -- an object that is adopted, which the store has
-adopted_keeps : (volume : Expected) (objects : Objects) (Tells : Type 0) (uuid : List ℕ) (geometry : Geometry) (before : ℕ)
+adopted_keeps : (volume : Expected) (objects : Objects) (Tells : Type 0) (uuid : List ℕ) (geometry : Geometry)
+    (ancestors before : ℕ)
     (old new : ObjLogState)
     → volume.sectors < 2 ^ 64
-    → expected_of_volume old ≡ volume → IsListUpTo uuid geometry old.uploads.window.last before old → Tells
+    → expected_of_volume old ≡ volume → IsListUpTo uuid geometry ancestors old.uploads.window.last before old → Tells
     → AdoptsNext Tells (Some objects) old new
     → KeepsStreams volume objects old new
-adopted_keeps volume objects Tells uuid geometry before old new wide same_volume is tells adopts uuid_at stream opening number
+adopted_keeps volume objects Tells uuid geometry ancestors before old new wide same_volume is tells adopts uuid_at stream
+    opening number
     has from to list =
     let there = adopts.stored tells in
     let at = old.uploads.window.last in
@@ -116,15 +129,16 @@ adopted_keeps volume objects Tells uuid geometry before old new wide same_volume
     (omega (arith, last), omega (arith, last, below), subst (λ n. HasStreamTo opening stream n new) (sym last) more)
 
 -- so it is where the store tells its objects
-pub told_more : (told : Option Objects) (volume : Expected) (Tells : Type 0) (uuid : List ℕ) (geometry : Geometry) (before : ℕ)
+pub told_more : (told : Option Objects) (volume : Expected) (Tells : Type 0) (uuid : List ℕ) (geometry : Geometry)
+    (ancestors before : ℕ)
     (begun old new : ObjLogState) → volume.sectors < 2 ^ 64
-    → expected_of_volume old ≡ volume → IsListUpTo uuid geometry old.uploads.window.last before old → Tells
+    → expected_of_volume old ≡ volume → IsListUpTo uuid geometry ancestors old.uploads.window.last before old → Tells
     → AdoptsNext Tells told old new
     → IfSome told (λ objects. KeepsStreams volume objects begun old)
     → IfSome told (λ objects. KeepsStreams volume objects begun new)
-told_more None volume Tells uuid geometry before begun old new wide same_volume is tells adopts keeps = tt
-told_more (Some objects) volume Tells uuid geometry before begun old new wide same_volume is tells adopts keeps =
-    keeps_more volume objects begun old new keeps (adopted_keeps volume objects Tells uuid geometry before old new wide
+told_more None volume Tells uuid geometry ancestors before begun old new wide same_volume is tells adopts keeps = tt
+told_more (Some objects) volume Tells uuid geometry ancestors before begun old new wide same_volume is tells adopts keeps =
+    keeps_more volume objects begun old new keeps (adopted_keeps volume objects Tells uuid geometry ancestors before old new wide
     same_volume is tells adopts)
 
 pub told_same : (told : Option Objects) (volume : Expected) (log : ObjLogState)
@@ -134,9 +148,9 @@ told_same (Some objects) volume log = keeps_same volume objects log
 
 -- ---- the objects that are good
 
-module _ (volume : Expected) (log : ObjLogState) (uuid : List ℕ) (geometry : Geometry)
+module _ (volume : Expected) (log : ObjLogState) (uuid : List ℕ) (geometry : Geometry) (ancestors : ℕ)
     (same_volume : expected_of_volume log ≡ volume)
-    (is : IsListUpTo uuid geometry log.uploads.window.last log.uploads.queue.end log) where
+    (is : IsListUpTo uuid geometry ancestors log.uploads.window.last log.uploads.queue.end log) where
   -- what is expected of the next object, by how far those of the list were judged
   next_after : next_of log ≡ expected_after volume (log.uploads.window.last + 1) (Some log.uploads.queue.end)
   next_after =
@@ -168,14 +182,15 @@ module _ (volume : Expected) (log : ObjLogState) (uuid : List ℕ) (geometry : G
       (there.header, there.rows_read, whole))
 
 -- so they are where the store tells its objects
-pub told_good : (told : Option Objects) (volume : Expected) (Tells : Type 0) (uuid : List ℕ) (geometry : Geometry)
+pub told_good : (told : Option Objects) (volume : Expected) (Tells : Type 0) (uuid : List ℕ) (geometry : Geometry) (ancestors : ℕ)
     (begun old new : ObjLogState)
-    → expected_of_volume old ≡ volume → IsListUpTo uuid geometry old.uploads.window.last old.uploads.queue.end old → Tells
+    → expected_of_volume old ≡ volume → IsListUpTo uuid geometry ancestors old.uploads.window.last old.uploads.queue.end old
+    → Tells
     → AdoptsNext Tells told old new
     → IfSome told (λ objects. KeepsGood volume objects begun old) → IfSome told (λ objects. KeepsGood volume objects begun new)
-told_good None volume Tells uuid geometry begun old new same_volume is tells adopts keeps = tt
-told_good (Some objects) volume Tells uuid geometry begun old new same_volume is tells adopts keeps = λ base reached.
-    adopted_good volume old uuid geometry same_volume is objects Tells new tells adopts base (keeps base reached)
+told_good None volume Tells uuid geometry ancestors begun old new same_volume is tells adopts keeps = tt
+told_good (Some objects) volume Tells uuid geometry ancestors begun old new same_volume is tells adopts keeps = λ base reached.
+    adopted_good volume old uuid geometry ancestors same_volume is objects Tells new tells adopts base (keeps base reached)
 
 pub told_still : (told : Option Objects) (volume : Expected) (log : ObjLogState)
     → IfSome told (λ objects. KeepsGood volume objects log log)

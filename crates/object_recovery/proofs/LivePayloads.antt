@@ -27,11 +27,12 @@ record HasLive (number : ℕ) (rows : List (Extent ObjectPlace)) : Type 0 where
   k : ℕ
   place : ObjectPlace
   at : place_at object_on rows k ≡ Some place
+  level : place.level ≡ 0
   own : place.number ≡ number
 
 module _ (number : ℕ) where
-  its_own : (place : ObjectPlace) → is_in_object number place ≡ true → place.number ≡ number
-  its_own place test = grind (arith, nat_tests)
+  its_own : (place : ObjectPlace) → is_in_object number place ≡ true → (place.level ≡ 0) × (place.number ≡ number)
+  its_own place test = (grind (arith, nat_tests), grind (arith, nat_tests))
 
   some_live_by : (test : Bool) (row : Extent ObjectPlace) (rows : List (Extent ObjectPlace)) → IsShortest object_on (row ∷ rows)
       → is_in_object number row.place ≡ test → (0 < live_sectors number rows → HasLive number rows)
@@ -40,7 +41,8 @@ module _ (number : ℕ) where
     k = row.lba;
     place = object_on (row.lba - row.lba) row.place;
     at = at_inside object_on row rows row.lba (omega arith) (omega (arith, shortest.0));
-    own = its_own row.place test;
+    level = (its_own row.place test).0;
+    own = (its_own row.place test).1;
   }
   some_live_by false row rows shortest test rest some =
       let has = rest (omega (arith, some)) in
@@ -56,6 +58,7 @@ module _ (number : ℕ) where
                   absurd cc)
               | inr high ↦ at_past object_on row rows has.k high ∙ has.at
             ];
+        level = has.level;
         own = has.own;
       }
 
@@ -81,5 +84,5 @@ live_payload uuid volume objects base queue known knows number =
     ∙ ap (λ m. live_sectors m rows) (its_number number list row at) in
     let has = some_live number rows known.shortest (omega (arith, live, count)) in
     let own = subst (λ n. IfSome (row_of n list) (λ (r : ObjectRow). HasPayloadThere volume objects n r.payload)) has.own
-    (knows.payloads has.k has.place has.at) in
+    (knows.payloads has.k has.place has.at has.level) in
     some_so (λ (r : ObjectRow). HasPayloadThere volume objects number r.payload) (row_of number list) own row at)

@@ -34,11 +34,13 @@ same_twice : (old log new : UploadsState) → IsSameButFound old log → IsSameB
 same_twice old log new a b = record {
   uuid = b.uuid ∙ a.uuid;
   sectors = b.sectors ∙ a.sectors;
+  ancestors = b.ancestors ∙ a.ancestors;
   window = b.window ∙ a.window;
   frontier = b.frontier ∙ a.frontier;
   end = b.end ∙ a.end;
   sealed = b.sealed ∙ a.sealed;
   removal = b.removal ∙ a.removal;
+  inherited = b.inherited ∙ a.inherited;
   log = b.log ∙ a.log;
 }
 
@@ -64,15 +66,15 @@ one_mapped rows row mapped old log new shortest lba sectors place is batch has =
   };
 }
 
--- the object of the next row may gain sectors
+-- the object of the next row may gain sectors, where it is the volume's own
 pub next_gains : (rows given rest : List (Extent StoredPlace)) (row : Extent StoredPlace) (old log : ObjLogState)
     → rows ≡ (given ++ row ∷ []) ++ rest → IsShortest stored_on (given ++ row ∷ []) → 0 < row.sectors → MayMap rows old
-    → HasRows given old log → MayGain row.place.number log.uploads.queue.maps.objects
-next_gains rows given rest row old log split shortest some may has =
+    → HasRows given old log → row.place.level ≡ 0 → MayGain row.place.number log.uploads.queue.maps.objects
+next_gains rows given rest row old log split shortest some may has own =
     let place = stored_on (row.lba - row.lba) row.place in
     let there : place_at stored_on rows row.lba ≡ Some place =
     ap (λ list. place_at stored_on list row.lba) split
     ∙ place_kept (given ++ row ∷ []) rest row.lba place
     (last_place given row row.lba shortest (omega arith) (omega (arith, some))) in
     still_gains row.place.number old.uploads.queue.maps.objects log.uploads.queue.maps.objects has.objects
-    (may row.lba place there)
+    (may row.lba place there own)

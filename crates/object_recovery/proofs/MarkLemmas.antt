@@ -8,6 +8,7 @@ use Rattle.std.proofs.lemmas.List.Elements.{Contains-append_right, Contains-appe
 use Rattle.lsvd_base.specs.declared.geometry.Geometry.{Geometry}
 use Rattle.upload_window.specs.Window.{WindowState}
 use Rattle.batcher.specs.State.{BatchState}
+use Rattle.object_stream.specs.declared.owner.Owner.{Owner}
 use Rattle.object_table.specs.declared.row.ObjectRow.{ObjectRow}
 use Rattle.object_table.specs.Table.{TableState, row_of, held}
 use Rattle.extent_map.specs.Extents.{place_at}
@@ -20,7 +21,7 @@ use Rattle.volume_maps.proofs.TableLemmas.{changed_unseen}
 use Rattle.object_uploads.specs.Collection.{IsInsideObject}
 use Rattle.object_uploads.specs.State.{QueueState, UploadsState, StoredObject}
 use Rattle.object_uploads.specs.ImageLaws.{KeepsImage}
-use Rattle.object_uploads.specs.Queue.{receipt_in, stored_with, stored_at}
+use Rattle.object_uploads.specs.Queue.{receipt_in, stored_with, inherited_in, stored_at}
 use Rattle.object_uploads.specs.Removal.{IsSameButObjects, HasChangedRow, ChangesPinsEach}
 use Rattle.object_uploads.proofs.DeadRows.{row_seen}
 use Rattle.object_uploads.proofs.KeepLemmas.{same_settled}
@@ -72,10 +73,12 @@ still_itself uploads = record {
   rest = record {
     uuid = refl;
     sectors = refl;
+    ancestors = refl;
     window = refl;
     frontier = refl;
     end = refl;
     sealed = refl;
+    inherited = refl;
     settled = refl;
     log = refl;
   };
@@ -103,10 +106,12 @@ still_later old middle new a b = record {
   rest = record {
     uuid = b.rest.uuid ∙ a.rest.uuid;
     sectors = b.rest.sectors ∙ a.rest.sectors;
+    ancestors = b.rest.ancestors ∙ a.rest.ancestors;
     window = b.rest.window ∙ a.rest.window;
     frontier = b.rest.frontier ∙ a.rest.frontier;
     end = b.rest.end ∙ a.rest.end;
     sealed = b.rest.sealed ∙ a.rest.sealed;
+    inherited = b.rest.inherited ∙ a.rest.inherited;
     settled = b.rest.settled ∙ a.rest.settled;
     log = b.rest.log ∙ a.rest.log;
   };
@@ -139,11 +144,12 @@ module _ (old new : ObjLogState) (batch : new.batch ≡ old.batch) (still : IsSt
   pub same_last : new.uploads.window.last ≡ old.uploads.window.last
   same_last = ap (λ (w : WindowState). w.last) still.rest.window
 
-  pub list_still : (uuid : List ℕ) (geometry : Geometry)
-      → IsListUpTo uuid geometry old.uploads.window.last before.end old
-      → IsListUpTo uuid geometry new.uploads.window.last after.end new
-  list_still uuid geometry is = record {
+  pub list_still : (uuid : List ℕ) (geometry : Geometry) (ancestors : ℕ)
+      → IsListUpTo uuid geometry ancestors old.uploads.window.last before.end old
+      → IsListUpTo uuid geometry ancestors new.uploads.window.last after.end new
+  list_still uuid geometry ancestors is = record {
     uuid_is = still.rest.uuid ∙ is.uuid_is;
+    ancestors_are = still.rest.ancestors ∙ is.ancestors_are;
     geometry_is = ap (λ (b : BatchState). b.geometry) batch ∙ is.geometry_is;
     sectors = still.rest.sectors ∙ is.sectors;
     first = ap (λ (b : BatchState). b.first) batch ∙ is.first ∙ sym still.rest.end;
@@ -173,16 +179,21 @@ module _ (old new : ObjLogState) (batch : new.batch ≡ old.batch) (still : IsSt
 
   stored_still : (place : ObjectPlace) → stored_at after place ≡ stored_at before place
   stored_still place =
-      let Stored : Option StoredObject → Option StoredObject = λ found. cond (place.level == 0) found None in
+      let owner : Owner = record { level = place.level; number = place.number } in
+      let Stored : Option StoredObject → Option StoredObject = λ found.
+      cond (place.level == 0) found (inherited_in after.inherited owner) in
       ap Stored
       (ap (λ list. stored_with (receipt_in list place.number) (row_of place.number after.maps.objects.rows)) still.receipts
       ∙ same_stored (receipt_in before.receipts place.number) (row_of place.number after.maps.objects.rows)
       (row_of place.number before.maps.objects.rows) (fronts place.number))
+      ∙ ap (λ list. cond (place.level == 0)
+      (stored_with (receipt_in before.receipts place.number) (row_of place.number before.maps.objects.rows))
+      (inherited_in list owner)) still.rest.inherited
 
   pub places_still : (sectors : ℕ) → HasPlacesInside sectors before → HasPlacesInside sectors after
   places_still sectors inside k place at =
       let was = inside k place (sym (settled_still k) ∙ at) in
-      (was.0, was.1, subst (λ o. IsInsideObject o place.sector) (sym (stored_still place)) was.2)
+      (was.0, subst (λ o. IsInsideObject o place.sector) (sym (stored_still place)) was.1)
 
   all_still : (Is : ObjectRow → Type 0) → ((x y : ObjectRow) → but_held x ≡ but_held y → Is y → Is x)
       → All Is before.maps.objects.rows → All Is after.maps.objects.rows

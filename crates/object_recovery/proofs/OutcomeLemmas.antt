@@ -1,7 +1,8 @@
 -- What comes of a recovery, by what was adopted and how the others were judged.
 use Rattle.std.proofs.Common.{◌≡◌, ℕ, ◌+◌, ◌-◌, ◌^◌, ◌<◌, ◌≤◌, inl, inr, Option, Some, None, List, length, refl, sym}
 use Rattle.std.proofs.Common.{ap, subst, arith}
-use Rattle.std.specs.Prelude.{Result, Ok, Err, IfSome}
+use Rattle.std.specs.Prelude.{Ok, Err, IfSome}
+use Rattle.clone_chain.specs.declared.ancestor.Ancestor.{Ancestor}
 use Rattle.lsvd_base.specs.declared.geometry.Geometry.{Geometry}
 use Rattle.lsvd_fault.specs.Faults.{Counts}
 use Rattle.lsvd_names.specs.declared.name.ObjName.{ObjName}
@@ -14,10 +15,12 @@ use Rattle.object_stream.specs.Replay.{object_name}
 use Rattle.extent_map.specs.declared.extent.Extent.{Extent}
 use Rattle.ckpt_format.specs.declared.place.StoredPlace.{StoredPlace}
 use Rattle.ckpt_format.specs.Checkpoint.{IsCheckpoint}
+use Rattle.stopped_volume.specs.Ancestors.{uuid_in_chain}
 use Rattle.stopped_volume.specs.Expected.{expected_alone}
 use Rattle.stopped_volume.specs.Objects.{IsWhole}
 use Rattle.stopped_volume.specs.Opening.{owned_by}
 use Rattle.upload_window.specs.Window.{WindowState}
+use Rattle.object_uploads.specs.State.{QueueState}
 use Rattle.obj_log.specs.State.{ObjLogState}
 use Rattle.obj_log.specs.Changes.{expected_of_volume, next_of}
 use Rattle.object_recovery.specs.declared.error.RecoverError.{RecoverError}
@@ -38,7 +41,7 @@ use Rattle.object_recovery.specs.Places.{HasPlacesInside}
 use Rattle.object_recovery.specs.Recovery.{IsListUpTo, KeepsStreams, AreAllGood, AreNamedWholePast, IsWhyObjectsRefused}
 use Rattle.object_recovery.specs.Recovery.{IsRefusal, IsRecoveryRefused}
 use Rattle.object_recovery.specs.Recovering.{Recovers}
-use Rattle.object_recovery.specs.Table.{AreNamedThere}
+use Rattle.object_recovery.specs.Table.{FindsNamed}
 use Rattle.object_recovery.proofs.EndLemmas.{alone_object}
 use Rattle.object_recovery.proofs.ListLemmas.{left_good}
 use Rattle.object_recovery.proofs.RecoverLemmas.{IsBegun, one_reading, stream_to, is_recovered}
@@ -64,9 +67,9 @@ module _ (volume : Expected) (objects : Objects) (base base_end : ℕ) (newest :
         verdict = λ last to number bytes such fits there. absurd (omega (arith, such.0, such.1));
       }
 
-  pub begun_reached : (uuid : List ℕ) (geometry : Geometry) (begun : ObjLogState)
-      → IsListUpTo uuid geometry base base_end begun → IsReached volume objects base (reached_by begun)
-  begun_reached uuid geometry begun list =
+  pub begun_reached : (uuid : List ℕ) (geometry : Geometry) (ancestors : ℕ) (begun : ObjLogState)
+      → IsListUpTo uuid geometry ancestors base base_end begun → IsReached volume objects base (reached_by begun)
+  begun_reached uuid geometry ancestors begun list =
       let last : base ≡ begun.uploads.window.last = sym (ap (λ (w : WindowState). w.last) list.window) in
       let At : ℕ → ℕ → Reached = λ n e. record { number = n; end = Some e; refused = None } in
       subst (λ n. IsReached volume objects base (At n begun.uploads.queue.end)) last
@@ -87,7 +90,7 @@ module _ (volume : Expected) (objects : Objects) (base base_end : ℕ) (newest :
       record { last = gap.number; run = is_run gap there goes.missing; verdict = past base listed there }
 
   module _ (log : ObjLogState) (same_volume : expected_of_volume log ≡ volume) (uuid : List ℕ) (geometry : Geometry)
-      (list : IsListUpTo uuid geometry log.uploads.window.last log.uploads.queue.end log)
+      (ancestors : ℕ) (list : IsListUpTo uuid geometry ancestors log.uploads.window.last log.uploads.queue.end log)
       (reached : IsReached volume objects base (reached_by log)) (names : List ObjName)
       (listed : Lists volume.uuid objects names) where
     gap_reached : (left : Option Reached) (gap : Reached) → HasEndedAt objects log left → ReachesGap volume objects log left gap
@@ -98,7 +101,7 @@ module _ (volume : Expected) (objects : Objects) (base base_end : ℕ) (newest :
         → found objects (object_name v (log.uploads.window.last + 1)) ≡ None) same_volume ended in
         (subst (IsReached volume objects base) (sym reaches) reached, subst (IsGap volume objects) (sym reaches) missing)
     gap_reached (Some left) gap ended reaches = (
-      reaches.reached base (left_good volume log uuid geometry same_volume list objects base left ended reached),
+      reaches.reached base (left_good volume log uuid geometry ancestors same_volume list objects base left ended reached),
       reaches.missing,
     )
 
@@ -127,7 +130,7 @@ module _ (volume : Expected) (objects : Objects) (base base_end : ℕ) (newest :
 
 -- ---- the outcomes
 
-module _ (volume : Expected) (objects : Objects) (base : ℕ) where
+module _ (volume : Expected) (uuid_at : ℕ → Option (List ℕ)) (objects : Objects) (base : ℕ) where
   pub all_good : AreJudged volume objects base None → AreAllGood volume objects base
   all_good is = (is.last, is.run, is.verdict)
 
@@ -141,7 +144,7 @@ module _ (volume : Expected) (objects : Objects) (base : ℕ) where
       (whole.0, whole.1, alone_object good.bytes (length good.bytes) expected whole.0 whole.1 whole.2)
 
   pub why_refused : (refusal : ObjectRefusal) → AreJudged volume objects base (Some refusal)
-      → IsWhyObjectsRefused volume objects (of_refusal refusal)
+      → IsWhyObjectsRefused volume uuid_at objects (of_refusal refusal)
   why_refused refusal is =
       let verdict = is.verdict in (
         base,
@@ -172,50 +175,57 @@ newest_of volume objects base rows is stored newest = record {
   newest = newest;
 }
 
-module _ (uuid : List ℕ) (geometry : Geometry) (base : ReadCheckpoint) (rows : List (Extent StoredPlace))
-    (names : List ObjName) (wide : geometry.sectors < 2 ^ 64)
-    (is : IsCheckpoint base.bytes (expected_alone (expected_of uuid geometry) base.number) base.end rows) where
-  abbrev volume : Expected
-  volume = expected_of uuid geometry
+module _ (uuid : List ℕ) (geometry : Geometry) (chain : List Ancestor) (base : ReadCheckpoint)
+    (rows : List (Extent StoredPlace)) (names : List ObjName) (wide : geometry.sectors < 2 ^ 64)
+    (is : IsCheckpoint base.bytes (expected_alone (expected_of uuid geometry (length chain)) base.number) base.end rows) where
+  abbrev ancestors : ℕ
+  ancestors = length chain
 
-  abbrev newest_at : (objects : Objects) → IsRecoveryBegun uuid geometry base names objects
+  abbrev volume : Expected
+  volume = expected_of uuid geometry ancestors
+
+  abbrev uuid_at : ℕ → Option (List ℕ)
+  uuid_at = uuid_in_chain uuid chain
+
+  abbrev newest_at : (objects : Objects) → IsRecoveryBegun uuid geometry ancestors base names objects
       → IsNewestWithEnd volume objects base.number base.end
   newest_at objects from = newest_of volume objects base rows is from.stored from.newest
 
   -- ---- beside an object that its rows name and that is not there
 
   beside_of : (objects : Objects) (missing : ℕ) (refused : Option ObjectRefusal)
-      → IsMissing volume objects rows missing → IsRecoveryBegun uuid geometry base names objects
+      → IsMissing uuid_at objects rows missing → IsRecoveryBegun uuid geometry ancestors base names objects
       → AreJudged volume objects base.number refused
-      → IsRecoveryRefused volume objects (refusal_or_missing missing refused)
+      → IsRecoveryRefused volume uuid_at objects (refusal_or_missing missing refused)
   beside_of objects missing None lacks from judged =
       let newest = newest_at objects from in
-      is_refused volume objects wide (errors.MissingObject missing) (record {
+      is_refused volume uuid_at objects wide (errors.MissingObject missing) (record {
         base = base.number;
         end = base.end;
         owned = owned_by rows;
         checkpoint = newest.is;
         newest = newest.newest;
-        good = all_good volume objects base.number judged;
+        good = all_good volume uuid_at objects base.number judged;
         missing = lacks;
       })
   beside_of objects missing (Some refusal) lacks from judged =
-      is_refused volume objects wide (of_refusal refusal) (why_refused volume objects base.number refusal judged)
+      is_refused volume uuid_at objects wide (of_refusal refusal) (why_refused volume uuid_at objects base.number refusal judged)
 
-  beside : (objects : Objects) (missing : ℕ) (error : RecoverError) → IsMissing volume objects rows missing
+  beside : (objects : Objects) (missing : ℕ) (error : RecoverError) → IsMissing uuid_at objects rows missing
       → RefusesBeside volume objects (record { number = base.number; end = Some base.end; refused = None }) names missing error
-      → IsRecoveryBegun uuid geometry base names objects → IsRecoveryRefused volume objects error
+      → IsRecoveryBegun uuid geometry ancestors base names objects → IsRecoveryRefused volume uuid_at objects error
   beside objects missing error lacks refuses from =
       let judged = beside_judged volume objects base.number base.end (newest_at objects from) refuses.0 names refuses.1
       from.listed refuses.2 refuses.3 in
-      subst (IsRecoveryRefused volume objects) (sym refuses.4) (beside_of objects missing refuses.1 lacks from judged)
+      subst (IsRecoveryRefused volume uuid_at objects) (sym refuses.4) (beside_of objects missing refuses.1 lacks from judged)
 
   pub told_beside : (told : Option Objects) (missing : ℕ) (error : RecoverError)
       → IfSome told (λ objects. Lists uuid objects names → (end : ℕ) (others : List (Extent StoredPlace))
-      → IsCheckpoint base.bytes (expected_alone volume base.number) end others → IsMissing volume objects others missing)
+      → IsCheckpoint base.bytes (expected_alone volume base.number) end others → IsMissing uuid_at objects others missing)
       → IfSome told (λ objects. RefusesBeside volume objects
       (record { number = base.number; end = Some base.end; refused = None }) names missing error)
-      → IfSome told (λ objects. IsRecoveryBegun uuid geometry base names objects → IsRecoveryRefused volume objects error)
+      → IfSome told (λ objects. IsRecoveryBegun uuid geometry ancestors base names objects
+      → IsRecoveryRefused volume uuid_at objects error)
   told_beside None missing error lacks refuses = tt
   told_beside (Some objects) missing error lacks refuses = λ from.
       beside objects missing error (lacks from.listed base.end rows is) refuses from
@@ -223,40 +233,48 @@ module _ (uuid : List ℕ) (geometry : Geometry) (base : ReadCheckpoint) (rows :
   -- ---- where a list begins with them
 
   -- what the list has once it has begun, where the store tells its objects
-  abbrev pub BeginsAsStored : ObjLogState → Objects → Type 0
-  BeginsAsStored begun objects = Lists uuid objects names → IsStoredCheckpoint volume objects base
-      → BeginsInStore volume objects base.number rows begun
+  abbrev pub BeginsAsStored : ObjLogState → (absent : Option (List ℕ)) → Objects → Type 0
+  BeginsAsStored begun absent objects = Lists uuid objects names → IsStoredCheckpoint volume objects base
+      → BeginsInStore volume uuid_at objects base.number rows begun absent
 
   -- a list that goes on is one of the same uuid and the same sizes
-  list_after : (begun log : ObjLogState) → BeginsList uuid geometry base rows begun
-      → IsListUpTo begun.uploads.uuid begun.batch.geometry log.uploads.window.last log.uploads.queue.end log
-      → IsListUpTo uuid geometry log.uploads.window.last log.uploads.queue.end log
-  list_after begun log begins list =
-      subst (λ u. IsListUpTo u geometry log.uploads.window.last log.uploads.queue.end log) begins.list.uuid_is
-      (subst (λ sizes. IsListUpTo begun.uploads.uuid sizes log.uploads.window.last log.uploads.queue.end log)
-      begins.list.geometry_is list)
+  list_after : (begun log : ObjLogState) (absent : Option (List ℕ)) → BeginsList uuid geometry ancestors base rows begun absent
+      → IsListUpTo begun.uploads.uuid begun.batch.geometry begun.uploads.ancestors log.uploads.window.last log.uploads.queue.end
+      log
+      → IsListUpTo uuid geometry ancestors log.uploads.window.last log.uploads.queue.end log
+  list_after begun log absent begins list =
+      subst (λ u. IsListUpTo u geometry ancestors log.uploads.window.last log.uploads.queue.end log) begins.list.uuid_is
+      (subst (λ sizes. IsListUpTo begun.uploads.uuid sizes ancestors log.uploads.window.last log.uploads.queue.end log)
+      begins.list.geometry_is
+      (subst (λ n. IsListUpTo begun.uploads.uuid begun.batch.geometry n log.uploads.window.last log.uploads.queue.end log)
+      begins.list.ancestors_are list))
 
-  module _ (begun log : ObjLogState) (begins : BeginsList uuid geometry base rows begun) (objects : Objects)
-      (of_store : BeginsAsStored begun objects) (left : Option Reached) (gone : HasGoneOn objects begun log left)
-      (from : IsRecoveryBegun uuid geometry base names objects) where
-    list : IsListUpTo uuid geometry log.uploads.window.last log.uploads.queue.end log
-    list = list_after begun log begins gone.list
+  module _ (begun log : ObjLogState) (absent : Option (List ℕ))
+      (begins : BeginsList uuid geometry ancestors base rows begun absent)
+      (objects : Objects) (of_store : BeginsAsStored begun absent objects) (left : Option Reached)
+      (gone : HasGoneOn objects begun log left)
+      (from : IsRecoveryBegun uuid geometry ancestors base names objects) where
+    list : IsListUpTo uuid geometry ancestors log.uploads.window.last log.uploads.queue.end log
+    list = list_after begun log absent begins gone.list
 
     abbrev newest : IsNewestWithEnd volume objects base.number base.end
     newest = newest_at objects from
 
     begun_volume : expected_of_volume begun ≡ volume
-    begun_volume = volume_is uuid geometry base.number base.end begun begins.list
+    begun_volume = volume_is uuid geometry ancestors base.number base.end begun begins.list
 
     log_volume : expected_of_volume log ≡ volume
-    log_volume = volume_is uuid geometry log.uploads.window.last log.uploads.queue.end log list
+    log_volume = volume_is uuid geometry ancestors log.uploads.window.last log.uploads.queue.end log list
 
-    begun_at : IsBegun volume objects uuid geometry rows base.number base.end begun
+    begun_at : IsBegun uuid_at objects uuid geometry ancestors rows base.number base.end begun
     begun_at = record {
       list = begins.list;
       order = begins.order;
       owners_are = begins.owners_are;
       value = (of_store from.listed from.stored).value;
+      inherited = λ k place at further.
+          (of_store from.listed from.stored).knows.places base.end (owned_by rows) newest.is k place at
+          (λ own. absurd (omega (arith, own, further)));
     }
 
     kept : KeepsStreams volume objects begun log
@@ -268,96 +286,110 @@ module _ (uuid : List ℕ) (geometry : Geometry) (base : ReadCheckpoint) (rows :
     log_reached : IsReached volume objects base.number (reached_by log)
     log_reached =
         (subst (λ v. KeepsGood v objects begun log) begun_volume gone.good) base.number
-        (begun_reached volume objects base.number base.end newest uuid geometry begun begins.list)
+        (begun_reached volume objects base.number base.end newest uuid geometry ancestors begun begins.list)
 
     judged : (refused : Option ObjectRefusal) → JudgesRest objects log names left refused
         → AreJudged volume objects base.number refused
-    judged refused rest = are_judged volume objects base.number base.end newest log log_volume uuid geometry list log_reached
+    judged refused rest =
+        are_judged volume objects base.number base.end newest log log_volume uuid geometry ancestors list log_reached
         names from.listed left refused gone.ended rest
 
-    recovers : JudgesRest objects log names left None → Recovers volume base.number objects log
+    recovers : JudgesRest objects log names left None → Recovers volume uuid_at base.number objects log absent
     recovers rest = record {
       checkpoint = (base.end, newest);
       recovered = λ low.
-          let absent = none_next volume objects base.number base.end newest log log_volume uuid geometry list log_reached names
-          from.listed left gone.ended rest low in
-          is_recovered volume objects base.number base.end wide newest uuid geometry begun log begun_at kept list log_reached.from
-          log_reached.landed absent;
-      no_longer = λ uuid_at stream opening number has.
-          (stream_to volume objects base.number base.end wide newest uuid_at stream opening number has uuid geometry begun log
-          begun_at kept).1;
+          let none = none_next volume objects base.number base.end newest log log_volume uuid geometry ancestors list
+          log_reached names from.listed left gone.ended rest low in
+          is_recovered volume objects base.number base.end wide newest uuid_at uuid geometry ancestors begun log begun_at kept
+          list log_reached.from log_reached.landed none;
+      no_longer = λ stream opening number has.
+          (stream_to volume objects base.number base.end wide newest uuid_at stream opening number has uuid geometry ancestors
+          begun log begun_at kept).1;
       landed = log_reached.landed;
-      good = all_good volume objects base.number (judged None rest);
-      past = whole_past volume objects base.number log.uploads.window.last log_reached.from (judged None rest);
+      good = all_good volume uuid_at objects base.number (judged None rest);
+      past = whole_past volume uuid_at objects base.number log.uploads.window.last log_reached.from (judged None rest);
       knows = kept_known base.number (omega (arith, begins.list.frontier)) (of_store from.listed from.stored).knows;
-      named = λ end owned checkpoint.
+      finds = λ end owned checkpoint.
           let one = one_reading volume objects base.number base.number base.end end (owned_by rows) owned refl newest.is
           checkpoint in
-          subst (AreNamedThere volume objects) (sym one.1) (of_store from.listed from.stored).named;
+          subst (λ others. FindsNamed volume uuid_at objects others absent) (sym one.1) (of_store from.listed from.stored).finds;
     }
 
-    refuses : (error : RecoverError) → RefusesRest objects log names left error → IsRecoveryRefused volume objects error
+    refuses : (error : RecoverError) → RefusesRest objects log names left error → IsRecoveryRefused volume uuid_at objects error
     refuses error refused =
         elim refused [
-          | inl none ↦ no_answer_refused volume objects error none
+          | inl none ↦ no_answer_refused volume uuid_at objects error none
           | inr is ↦
-              subst (IsRecoveryRefused volume objects) (sym is.1)
-              (is_refused volume objects wide (of_refusal is.0)
-              (why_refused volume objects base.number is.0 (judged (Some is.0) is.2)))
+              subst (IsRecoveryRefused volume uuid_at objects) (sym is.1)
+              (is_refused volume uuid_at objects wide (of_refusal is.0)
+              (why_refused volume uuid_at objects base.number is.0 (judged (Some is.0) is.2)))
         ]
 
   -- ---- where the store tells its objects
 
-  module _ (begun : ObjLogState) (begins : BeginsList uuid geometry base rows begun) where
-    told_recovers : (told : Option Objects) (log : ObjLogState) → IfSome told (BeginsAsStored begun)
-        → IfSome told (λ objects. GoesOnWith objects names begun log)
-        → IfSome told (λ objects. IsRecoveryBegun uuid geometry base names objects → Recovers volume base.number objects log)
-    told_recovers None log of_store goes = tt
-    told_recovers (Some objects) log of_store goes = λ from. recovers begun log begins objects of_store goes.0 goes.1 from goes.2
+  module _ (begun : ObjLogState) (absent : Option (List ℕ)) (begins : BeginsList uuid geometry ancestors base rows begun absent)
+    where
+      told_recovers : (told : Option Objects) (log : ObjLogState) → IfSome told (BeginsAsStored begun absent)
+          → IfSome told (λ objects. GoesOnWith objects names begun log)
+          → IfSome told (λ objects. IsRecoveryBegun uuid geometry ancestors base names objects
+          → Recovers volume uuid_at base.number objects log
+          absent)
+      told_recovers None log of_store goes = tt
+      told_recovers (Some objects) log of_store goes = λ from.
+          recovers begun log absent begins objects of_store goes.0 goes.1 from goes.2
 
-    told_refuses : (told : Option Objects) (error : RecoverError) → IfSome told (BeginsAsStored begun)
-        → IfSome told (λ objects. StopsWith objects names begun error)
-        → IfSome told (λ objects. IsRecoveryBegun uuid geometry base names objects → IsRecoveryRefused volume objects error)
-    told_refuses None error of_store stops = tt
-    told_refuses (Some objects) error of_store stops = λ from.
-        elim stops [
-          | inl none ↦ no_answer_refused volume objects error none
-          | inr is ↦ refuses begun is.0 begins objects of_store is.1 is.2 from error is.3
-        ]
+      told_refuses : (told : Option Objects) (error : RecoverError) → IfSome told (BeginsAsStored begun absent)
+          → IfSome told (λ objects. StopsWith objects names begun error)
+          → IfSome told (λ objects. IsRecoveryBegun uuid geometry ancestors base names objects
+          → IsRecoveryRefused volume uuid_at objects error)
+      told_refuses None error of_store stops = tt
+      told_refuses (Some objects) error of_store stops = λ from.
+          elim stops [
+            | inl none ↦ no_answer_refused volume uuid_at objects error none
+            | inr is ↦ refuses begun is.0 absent begins objects of_store is.1 is.2 from error is.3
+          ]
 
-    -- how the list goes on, the recovery ends
-    pub recovers_so : (Tells : Type 0) (old new : StoreState) (result : Result ObjLogState RecoverError)
-        → (Tells → IfSome old.objects (BeginsAsStored begun)) → GoesOnOf Tells begun names old new result
-        → RecoverListOf Tells uuid geometry base names old new result
-    recovers_so Tells old new (Ok log) of_store goes = record {
-      list = list_after begun log begins goes.list;
-      from = subst (λ n. n ≤ log.uploads.window.last) (ap (λ (w : WindowState). w.last) begins.list.window) goes.from;
-      order = goes.order;
-      places =
-          subst (λ (sizes : Geometry). HasPlacesInside sizes.sectors log.uploads.queue) begins.list.geometry_is goes.places;
-      table = goes.table base.number begins.table;
-      recovers = λ tells. told_recovers old.objects log (of_store tells) (goes.goes_on tells);
-      refused = λ tells. tt;
-      unchanged = goes.unchanged;
-      faults = goes.faults;
-    }
-    recovers_so Tells old new (Err error) of_store goes = record {
-      list = tt;
-      from = tt;
-      order = tt;
-      places = tt;
-      table = tt;
-      recovers = λ tells. tt;
-      refused = λ tells. told_refuses old.objects error (of_store tells) (goes.refused tells);
-      unchanged = goes.unchanged;
-      faults = goes.faults;
-    }
+      -- how the list goes on, the recovery ends
+      pub recovers_so : (Tells : Type 0) (old new : StoreState) (log : ObjLogState)
+          → (Tells → IfSome old.objects (BeginsAsStored begun absent)) → GoesOnOf Tells begun names old new (Ok log)
+          → RecoverListOf Tells uuid geometry chain base names old new (Ok (record { log = log; absent = absent }))
+      recovers_so Tells old new log of_store goes = record {
+        list = list_after begun log absent begins goes.list;
+        from = subst (λ n. n ≤ log.uploads.window.last) (ap (λ (w : WindowState). w.last) begins.list.window) goes.from;
+        order = goes.order;
+        places = λ none.
+            let At : Geometry → QueueState → Type 0 = λ sizes queue. HasPlacesInside sizes.sectors queue in
+            let geometry_is = begins.list.geometry_is in
+            subst (λ sizes. At sizes log.uploads.queue) geometry_is
+            (goes.places (subst (λ sizes. At sizes begun.uploads.queue) (sym geometry_is) (begins.places none)));
+        table = goes.table base.number begins.table;
+        recovers = λ tells. told_recovers old.objects log (of_store tells) (goes.goes_on tells);
+        refused = λ tells. tt;
+        unchanged = goes.unchanged;
+        faults = goes.faults;
+      }
+
+      pub stops_so : (Tells : Type 0) (old new : StoreState) (error : RecoverError)
+          → (Tells → IfSome old.objects (BeginsAsStored begun absent)) → GoesOnOf Tells begun names old new (Err error)
+          → RecoverListOf Tells uuid geometry chain base names old new (Err error)
+      stops_so Tells old new error of_store goes = record {
+        list = tt;
+        from = tt;
+        order = tt;
+        places = tt;
+        table = tt;
+        recovers = λ tells. tt;
+        refused = λ tells. told_refuses old.objects error (of_store tells) (goes.refused tells);
+        unchanged = goes.unchanged;
+        faults = goes.faults;
+      }
 
 -- where a call of the store failed, or memory ran out, nothing is refused
-pub told_failed : (told : Option Objects) (volume : Expected) (Begun : Objects → Type 0) (error : RecoverError) → IsNoAnswer error
-    → IfSome told (λ objects. Begun objects → IsRecoveryRefused volume objects error)
-told_failed None of_volume Begun error none = tt
-told_failed (Some objects) of_volume Begun error none = λ _. no_answer_refused of_volume objects error none
+pub told_failed : (told : Option Objects) (of_volume : Expected) (uuids : ℕ → Option (List ℕ)) (Begun : Objects → Type 0)
+    (error : RecoverError) → IsNoAnswer error
+    → IfSome told (λ objects. Begun objects → IsRecoveryRefused of_volume uuids objects error)
+told_failed None of_volume uuids Begun error none = tt
+told_failed (Some objects) of_volume uuids Begun error none = λ _. no_answer_refused of_volume uuids objects error none
 
 -- a call of the store that failed, or that found no memory, is no answer, and a fault was counted where it failed
 pub of_store_is_no_answer : (error : StoreError) → IsNoAnswer (of_store error)
@@ -377,6 +409,7 @@ pub refusal_counts : (error : RecoverError) (old new : ℕ) → IsRefusal error 
 refusal_counts errors.NoCheckpoint old new is same = same
 refusal_counts (errors.BadObject number reason) old new is same = same
 refusal_counts (errors.MissingObject number) old new is same = same
+refusal_counts (errors.BaseMissing uuid) old new is same = same
 refusal_counts errors.StoreFault old new is same = absurd is
 refusal_counts errors.OutOfMemory old new is same = absurd is
 
@@ -404,7 +437,7 @@ told_refusal (Some objects) log names left refusal error same rest = inr (refusa
 
 -- a list went on, where all past it were judged
 pub told_goes_on : (told : Option Objects) (names : List ObjName) (begun log : ObjLogState) (left : Option Reached)
-    → IsListUpTo begun.uploads.uuid begun.batch.geometry log.uploads.window.last log.uploads.queue.end log
+    → IsListUpTo begun.uploads.uuid begun.batch.geometry begun.uploads.ancestors log.uploads.window.last log.uploads.queue.end log
     → IfSome told (λ objects. KeepsStreams (expected_of_volume begun) objects begun log)
     → IfSome told (λ objects. KeepsGood (expected_of_volume begun) objects begun log)
     → IfSome told (λ objects. KeepsKnown (expected_of_volume begun) objects begun log)
@@ -416,7 +449,7 @@ told_goes_on (Some objects) names begun log left up_to streams good knows ended 
 
 pub told_stops : (told : Option Objects) (names : List ObjName) (begun log : ObjLogState) (left : Option Reached)
     (error : RecoverError)
-    → IsListUpTo begun.uploads.uuid begun.batch.geometry log.uploads.window.last log.uploads.queue.end log
+    → IsListUpTo begun.uploads.uuid begun.batch.geometry begun.uploads.ancestors log.uploads.window.last log.uploads.queue.end log
     → IfSome told (λ objects. KeepsStreams (expected_of_volume begun) objects begun log)
     → IfSome told (λ objects. KeepsGood (expected_of_volume begun) objects begun log)
     → IfSome told (λ objects. KeepsKnown (expected_of_volume begun) objects begun log)

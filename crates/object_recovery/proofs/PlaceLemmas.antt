@@ -19,6 +19,7 @@ use Rattle.object_format.specs.declared.rows.Rows.TheVariants as rows_of
 use Rattle.object_format.specs.Layout.{front_sectors, front_with}
 use Rattle.object_format.specs.Rows.{is_at, payload_at, data_payload, data_may_stand, data_rows_may_stand}
 use Rattle.object_format.specs.Rows.{is_inside, copy_may_follow, is_source, copy_may_stand, copy_rows_may_stand}
+use Rattle.object_stream.specs.declared.owner.Owner.{Owner}
 use Rattle.object_table.specs.Table.{new_row, added}
 use Rattle.volume_maps.specs.declared.place.ObjectPlace.{ObjectPlace}
 use Rattle.volume_maps.specs.Places.{object_on}
@@ -27,7 +28,8 @@ use Rattle.volume_maps.specs.Maps.{row_object_place, settled_by_row, settled_by,
 use Rattle.object_uploads.specs.declared.rows.SealedRows.{SealedRows}
 use Rattle.object_uploads.specs.declared.rows.SealedRows.TheVariants as sealed_rows
 use Rattle.object_uploads.specs.State.{StoredObject, QueueState}
-use Rattle.object_uploads.specs.Queue.{front_of, copy_front_of, payload_of, copy_payload_of, stored_at, IsNextSettled}
+use Rattle.object_uploads.specs.Queue.{front_of, copy_front_of, payload_of, copy_payload_of, inherited_in, stored_at}
+use Rattle.object_uploads.specs.Queue.{IsNextSettled}
 use Rattle.object_uploads.specs.Order.{AreKnown}
 use Rattle.object_uploads.proofs.ImageLemmas.{known_up_to}
 use Rattle.object_uploads.proofs.SettleImage.{added_data}
@@ -126,11 +128,11 @@ inside_kept : (was is : Option StoredObject) (at : ℕ) → ((object : StoredObj
 inside_kept None is at kept inside = absurd inside
 inside_kept (Some object) is at kept inside = subst (λ o. IsInsideObject o at) (sym (kept object refl)) inside
 
-inside_by : (own : Bool) (was is : Option StoredObject) (at : ℕ)
-    → ((object : StoredObject) → was ≡ Some object → is ≡ Some object)
-    → IsInsideObject (cond own was None) at → IsInsideObject (cond own is None) at
-inside_by true was is at kept inside = inside_kept was is at kept inside
-inside_by false was is at kept inside = absurd inside
+inside_by : (own : Bool) (was is other others : Option StoredObject) (at : ℕ)
+    → ((object : StoredObject) → was ≡ Some object → is ≡ Some object) → others ≡ other
+    → IsInsideObject (cond own was other) at → IsInsideObject (cond own is others) at
+inside_by true was is other others at kept same inside = inside_kept was is at kept inside
+inside_by false was is other others at kept same inside = subst (λ o. IsInsideObject o at) (sym same) inside
 
 -- what is in the store with the next object, which has so many sectors of payload, and so many before it
 module _ (uuid : List ℕ) (sectors end gained payload front : ℕ) (rows : SealedRows) (receipt : ReceiptState)
@@ -147,9 +149,10 @@ module _ (uuid : List ℕ) (sectors end gained payload front : ℕ) (rows : Seal
   still_inside : (place : ObjectPlace) → IsInsideObject (stored_at old place) place.sector
       → IsInsideObject (stored_at new place) place.sector
   still_inside place inside =
-      inside_by (place.level == 0) _ _ place.sector
+      let owner : Owner = record { level = place.level; number = place.number } in
+      inside_by (place.level == 0) _ _ _ _ place.sector
       (still_stored (old.frontier + 1) front receipt old.receipts new.receipts old.maps.objects.rows
-      new.maps.objects.rows is_added place.number) inside
+      new.maps.objects.rows is_added place.number) (ap (λ list. inherited_in list owner) next.inherited) inside
 
   own_stored : (sector : ℕ) → stored_at new (record { level = 0; number = old.frontier + 1; sector = sector })
       ≡ Some (record { receipt = receipt; front = front })
@@ -159,13 +162,12 @@ module _ (uuid : List ℕ) (sectors end gained payload front : ℕ) (rows : Seal
 
   -- a sector of the volume is inside an object
   abbrev Inside : ℕ → ObjectPlace → Type 0
-  Inside k place = (k < sectors) × (place.level ≡ 0) × IsInsideObject (stored_at new place) place.sector
+  Inside k place = (k < sectors) × IsInsideObject (stored_at new place) place.sector
 
   own_inside : (k at i : ℕ) → k < sectors → at + i < payload
       → Inside k (record { level = 0; number = old.frontier + 1; sector = at + i })
   own_inside k at i low below = (
     low,
-    refl,
     subst (λ o. IsInsideObject o (at + i)) (sym (own_stored (at + i))) (omega (arith, size, below)),
   )
 
@@ -173,7 +175,7 @@ module _ (uuid : List ℕ) (sectors end gained payload front : ℕ) (rows : Seal
   before_inside inside k =
       so_some (Inside k) (settled_at old.maps k) (λ place is.
       let was = inside k place is in
-      (was.0, was.1, still_inside place was.2))
+      (was.0, still_inside place was.1))
 
   places_by : HasPlacesInside sectors old
       → ((k : ℕ) → IfSome (settled_at old.maps k) (Inside k) → IfSome (settled_at new.maps k) (Inside k))

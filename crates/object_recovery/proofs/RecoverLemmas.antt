@@ -1,16 +1,18 @@
 -- What a recovery makes of what a store has.
 use Rattle.std.proofs.Common.{◌≡◌, ℕ, ◌+◌, ◌-◌, ◌^◌, ◌<◌, ◌≤◌, Option, Some, None, List, [], take, drop, refl}
 use Rattle.std.proofs.Common.{sym, ◌∙◌, ap, subst, arith}
-use Rattle.std.specs.Prelude.{IfSome, IsTrue, is_some}
+use Rattle.std.specs.Prelude.{IfSome, IsTrue, is_some, option_map}
 use Rattle.lsvd_base.specs.declared.entry.Entry.{Entry}
 use Rattle.lsvd_base.specs.declared.geometry.Geometry.{Geometry}
 use Rattle.lsvd_base.specs.Image.{Image, after}
 use Rattle.lsvd_objstore.specs.Objects.{Objects, found}
 use Rattle.extent_map.specs.declared.extent.Extent.{Extent}
+use Rattle.extent_map.specs.Extents.{place_at}
 use Rattle.object_format.specs.declared.expected.Expected.{Expected}
 use Rattle.object_format.specs.declared.header.Header.{Header}
 use Rattle.ckpt_format.specs.declared.place.StoredPlace.{StoredPlace}
 use Rattle.ckpt_format.specs.Checkpoint.{IsCheckpoint}
+use Rattle.ckpt_format.specs.Places.{stored_on}
 use Rattle.ckpt_format.proofs.LawLemmas.{has_one_reading}
 use Rattle.object_stream.specs.declared.object.StreamObject.{StreamObject}
 use Rattle.object_stream.specs.Replay.{object_name}
@@ -19,13 +21,15 @@ use Rattle.object_stream.specs.Value.{StandsForSector, IsValue}
 use Rattle.stopped_volume.specs.Expected.{expected_alone}
 use Rattle.stopped_volume.specs.Objects.{landed_in}
 use Rattle.stopped_volume.specs.Opening.{owned_by, IsCheckpointOf, HoldPlaces}
+use Rattle.volume_maps.specs.declared.place.ObjectPlace.{ObjectPlace}
 use Rattle.volume_maps.specs.Laws.{place_owner}
 use Rattle.volume_maps.specs.Maps.{settled_at}
 use Rattle.upload_window.specs.Window.{WindowState}
+use Rattle.object_uploads.specs.Checkpoint.{mapped_place}
 use Rattle.object_uploads.specs.Image.{HasImage, HasOwnReceipts}
 use Rattle.object_uploads.specs.Order.{IsUploads}
 use Rattle.object_uploads.specs.State.{UploadsState}
-use Rattle.object_uploads.specs.Stream.{AreOfStream}
+use Rattle.object_uploads.specs.Stream.{IsPlacedInherited, AreOfStream}
 use Rattle.object_uploads.proofs.GrowLemmas.{all_objects, stream_begins}
 use Rattle.obj_log.specs.State.{ObjLogState}
 use Rattle.obj_log.specs.Changes.{expected_of_volume}
@@ -35,17 +39,20 @@ use Rattle.object_recovery.specs.Checkpoints.{IsNewestWithEnd}
 use Rattle.object_recovery.specs.Judging.{HaveLanded}
 use Rattle.object_recovery.specs.Recovery.{up_to_object, HasDataUpTo, IsListUpTo, HasStreamTo, KeepsStreams, IsLastLanded}
 use Rattle.object_recovery.specs.Recovery.{HasRecovered, IsRecoveredOf}
+use Rattle.object_recovery.proofs.PlaceLemmas.{so_some}
 use Rattle.object_recovery.proofs.StreamLemmas.{reached}
 
 -- ---- where it begins
 
 -- a list that begins with a checkpoint of a volume that has these rows, this number and this end
-pub record IsBegun (volume : Expected) (objects : Objects) (uuid : List ℕ) (geometry : Geometry)
+pub record IsBegun (uuid_at : ℕ → Option (List ℕ)) (objects : Objects) (uuid : List ℕ) (geometry : Geometry) (ancestors : ℕ)
     (rows : List (Extent StoredPlace)) (number end : ℕ) (log : ObjLogState) : Type 0 where
-  pub list : IsListUpTo uuid geometry number end log
+  pub list : IsListUpTo uuid geometry ancestors number end log
   pub order : IsUploads log.uploads
   pub owners_are : (k : ℕ) → place_owner (settled_at log.uploads.queue.maps k) ≡ owned_by rows k
-  pub value : HasValue volume objects rows log
+  pub value : HasValue uuid_at objects rows log
+  pub inherited : (k : ℕ) (place : ObjectPlace) → settled_at log.uploads.queue.maps k ≡ Some place → 1 ≤ place.level
+      → option_map mapped_place (place_at stored_on rows k) ≡ Some place
 
 -- the same uploads, with no row in the map of the log
 abbrev without_log : UploadsState → UploadsState
@@ -78,6 +85,8 @@ order_without_log uploads is =
       begun = is.begun;
       waiting = is.waiting;
       places = is.places;
+      ancestors = is.ancestors;
+      inherited = is.inherited;
     }
 
 module _ (stream : Stream) where
@@ -85,7 +94,14 @@ module _ (stream : Stream) where
   begin = stream.number
 
   abbrev empty : Stream
-  empty = record { number = begin; end = stream.end; opening = stream.opening; entries = []; objects = [] }
+  empty = record {
+    number = begin;
+    end = stream.end;
+    opening = stream.opening;
+    inherited = stream.inherited;
+    entries = [];
+    objects = [];
+  }
 
   no_objects : objects_to stream begin ≡ []
   no_objects = let zero_ : begin - begin ≡ 0 = omega arith in ap (λ n. take n stream.objects) zero_
@@ -105,13 +121,16 @@ module _ (stream : Stream) where
         objects = os;
       } in s) (sym no_objects)
 
-  module _ (uuid : List ℕ) (geometry : Geometry) (log : ObjLogState) (is : IsListUpTo uuid geometry begin stream.end log)
+  module _ (uuid : List ℕ) (geometry : Geometry) (ancestors : ℕ) (log : ObjLogState)
+      (is : IsListUpTo uuid geometry ancestors begin stream.end log)
       (order : IsUploads log.uploads)
-      (owners_are : (k : ℕ) → place_owner (settled_at log.uploads.queue.maps k) ≡ stream.opening k) where
+      (owners_are : (k : ℕ) → place_owner (settled_at log.uploads.queue.maps k) ≡ stream.opening k)
+      (inherited_are : (k : ℕ) → IfSome (settled_at log.uploads.queue.maps k) (IsPlacedInherited stream.inherited k)) where
     objects_of_stream : (data_at : ℕ → ℕ) → AreOfStream (expected_of_volume log) data_at empty log.uploads
     objects_of_stream data_at =
         let are = stream_begins (expected_of_volume log) data_at (without_log log.uploads) begin stream.end stream.opening
-        is.window is.frontier is.end_is is.sealed refl (order_without_log log.uploads order) owners_are in
+        stream.inherited is.window is.frontier is.end_is is.sealed refl (order_without_log log.uploads order) owners_are
+        inherited_are in
         record {
           valid = are.valid;
           from = are.from;
@@ -143,6 +162,12 @@ module _ (stream : Stream) where
     }
 
 -- ---- the newest checkpoint
+
+-- a place that was mapped is that of a row
+mapped_from : (row : Option StoredPlace) (place : ObjectPlace) → option_map mapped_place row ≡ Some place
+    → (of : StoredPlace) × (row ≡ Some of) × (mapped_place of ≡ place)
+mapped_from None place is = absurd cc
+mapped_from (Some of) place is = (of, refl, cc)
 
 -- a checkpoint has one end, and one list of rows
 pub one_reading : (volume : Expected) (objects : Objects) (number other_number end other : ℕ) (owned others : Owners)
@@ -194,41 +219,55 @@ module _ (volume : Expected) (objects : Objects) (base base_end : ℕ) (wide : v
       value_is k sector at =
           subst (λ o. StandsForSector objects uuid_at o k sector) (owners_are k) (has.stored.opens.value k sector at)
 
-      -- a list that begins with it has the stream up to there
-      at_base : (uuid : List ℕ) (geometry : Geometry) (log : ObjLogState)
-          → IsBegun volume objects uuid geometry newest.is.rows base base_end log
-          → HasStreamTo opening stream log.uploads.window.last log
-      at_base uuid geometry log new =
-          let moved : IsListUpTo uuid geometry stream.number stream.end log =
-          subst (λ n. IsListUpTo uuid geometry n stream.end log) base_is
-          (subst (λ e. IsListUpTo uuid geometry base e log) reading.0 new.list) in
-          let last : stream.number ≡ log.uploads.window.last = sym (ap (λ (w : WindowState). w.last) moved.window) in
-          let image = new.value uuid_at opening has.own hold_places value_is in
-          subst (λ n. HasStreamTo opening stream n log) last
-          (begins stream uuid geometry log moved new.order (λ k. new.owners_are k ∙ sym (owners_are k)) opening image.0 image.1)
+      -- where an ancestor's object has a sector, its rows say
+      inherited_are : (log : ObjLogState) (uuid : List ℕ) (geometry : Geometry) (ancestors : ℕ)
+          → IsBegun uuid_at objects uuid geometry ancestors newest.is.rows base base_end log
+          → (k : ℕ) → IfSome (settled_at log.uploads.queue.maps k) (IsPlacedInherited stream.inherited k)
+      inherited_are log uuid geometry ancestors new k =
+          so_some (IsPlacedInherited stream.inherited k) (settled_at log.uploads.queue.maps k)
+          (λ place at further.
+          let row = mapped_from (place_at stored_on newest.is.rows k) place (new.inherited k place at further) in
+          let same : place_at stored_on opens.rows k ≡ Some row.0 = ap (λ rows. place_at stored_on rows k) reading.1 ∙ row.1 in
+          let is = has.stored.opens.inherited k row.0 same
+          (subst (λ n. 1 ≤ n) (ap (λ (p : ObjectPlace). p.level) (sym row.2)) further) in
+          ap (λ (p : ObjectPlace). p.sector) (sym row.2) ∙ is)
 
-      pub stream_to : (uuid : List ℕ) (geometry : Geometry) (begun log : ObjLogState)
-          → IsBegun volume objects uuid geometry newest.is.rows base base_end begun
+      -- a list that begins with it has the stream up to there
+      at_base : (uuid : List ℕ) (geometry : Geometry) (ancestors : ℕ) (log : ObjLogState)
+          → IsBegun uuid_at objects uuid geometry ancestors newest.is.rows base base_end log
+          → HasStreamTo opening stream log.uploads.window.last log
+      at_base uuid geometry ancestors log new =
+          let moved : IsListUpTo uuid geometry ancestors stream.number stream.end log =
+          subst (λ n. IsListUpTo uuid geometry ancestors n stream.end log) base_is
+          (subst (λ e. IsListUpTo uuid geometry ancestors base e log) reading.0 new.list) in
+          let last : stream.number ≡ log.uploads.window.last = sym (ap (λ (w : WindowState). w.last) moved.window) in
+          let image = new.value opening hold_places value_is in
+          subst (λ n. HasStreamTo opening stream n log) last
+          (begins stream uuid geometry ancestors log moved new.order (λ k. new.owners_are k ∙ sym (owners_are k))
+          (inherited_are log uuid geometry ancestors new) opening image.0 image.1)
+
+      pub stream_to : (uuid : List ℕ) (geometry : Geometry) (ancestors : ℕ) (begun log : ObjLogState)
+          → IsBegun uuid_at objects uuid geometry ancestors newest.is.rows base base_end begun
           → KeepsStreams volume objects begun log
           → (stream.number ≤ log.uploads.window.last) × (log.uploads.window.last ≤ number)
           × HasStreamTo opening stream log.uploads.window.last log
-      stream_to uuid geometry begun log new keeps =
+      stream_to uuid geometry ancestors begun log new keeps =
           let first : begun.uploads.window.last ≡ base = ap (λ (w : WindowState). w.last) new.list.window in
           let to : begun.uploads.window.last ≤ number =
           omega (arith, first, base_is, has.stored.missing.above, has.stored.base) in
           let now = keeps uuid_at stream opening number has (omega (arith, first, base_is)) to
-          (at_base uuid geometry begun new) in
+          (at_base uuid geometry ancestors begun new) in
           (omega (arith, now.0, first, base_is), now.1, now.2)
 
       -- where no object is past the last, it is recovered
-      recovered : (uuid : List ℕ) (geometry : Geometry) (begun log : ObjLogState)
-          → IsBegun volume objects uuid geometry newest.is.rows base base_end begun
+      recovered : (uuid : List ℕ) (geometry : Geometry) (ancestors : ℕ) (begun log : ObjLogState)
+          → IsBegun uuid_at objects uuid geometry ancestors newest.is.rows base base_end begun
           → KeepsStreams volume objects begun log
-          → IsListUpTo uuid geometry log.uploads.window.last log.uploads.queue.end log
+          → IsListUpTo uuid geometry ancestors log.uploads.window.last log.uploads.queue.end log
           → found objects (object_name volume (log.uploads.window.last + 1)) ≡ None
           → HasRecovered opening stream number log
-      recovered uuid geometry begun log new keeps list absent =
-          let now = stream_to uuid geometry begun log new keeps in
+      recovered uuid geometry ancestors begun log new keeps list absent =
+          let now = stream_to uuid geometry ancestors begun log new keeps in
           let last = reached volume uuid_at objects stream opening number wide has log.uploads.window.last now.0 now.1 absent in
           let streams = subst (λ n. HasStreamTo opening stream n log) last now.2 in
           record {
@@ -254,22 +293,23 @@ module _ (volume : Expected) (objects : Objects) (base base_end : ℕ) (wide : v
     least = λ number past below. landed number past (omega (arith, below));
   }
 
-  pub is_recovered : (uuid : List ℕ) (geometry : Geometry) (begun log : ObjLogState)
-      → IsBegun volume objects uuid geometry newest.is.rows base base_end begun
+  pub is_recovered : (uuid_at : ℕ → Option (List ℕ)) (uuid : List ℕ) (geometry : Geometry) (ancestors : ℕ)
+      (begun log : ObjLogState)
+      → IsBegun uuid_at objects uuid geometry ancestors newest.is.rows base base_end begun
       → KeepsStreams volume objects begun log
-      → IsListUpTo uuid geometry log.uploads.window.last log.uploads.queue.end log → base ≤ log.uploads.window.last
+      → IsListUpTo uuid geometry ancestors log.uploads.window.last log.uploads.queue.end log → base ≤ log.uploads.window.last
       → HaveLanded objects volume base log.uploads.window.last
-      → found objects (object_name volume (log.uploads.window.last + 1)) ≡ None → IsRecoveredOf volume objects log
-  is_recovered uuid geometry begun log new keeps list from landed absent = record {
-    streams = λ uuid_at stream opening number has.
-        recovered uuid_at stream opening number has uuid geometry begun log new keeps list absent;
+      → found objects (object_name volume (log.uploads.window.last + 1)) ≡ None → IsRecoveredOf volume uuid_at objects log
+  is_recovered uuid_at uuid geometry ancestors begun log new keeps list from landed absent = record {
+    streams = λ stream opening number has.
+        recovered uuid_at stream opening number has uuid geometry ancestors begun log new keeps list absent;
     last = last_landed log.uploads.window.last from landed absent;
   }
 
 -- For the proofs of callers: where the store tells its objects, the last of a recovered list is that before the first missing
 -- number.
-pub told_last : (told : Option Objects) (volume : Expected) (log : ObjLogState)
-    → IfSome told (λ objects. IsRecoveredOf volume objects log)
+pub told_last : (told : Option Objects) (volume : Expected) (uuid_at : ℕ → Option (List ℕ)) (log : ObjLogState)
+    → IfSome told (λ objects. IsRecoveredOf volume uuid_at objects log)
     → IfSome told (λ objects. IsLastLanded volume objects log.uploads.window.last)
-told_last None volume log is = tt
-told_last (Some objects) volume log is = is.last
+told_last None volume uuid_at log is = tt
+told_last (Some objects) volume uuid_at log is = is.last

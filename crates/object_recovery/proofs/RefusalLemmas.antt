@@ -32,34 +32,38 @@ use Rattle.object_recovery.proofs.StreamLemmas.{is_stored, next_end}
 use Rattle.object_recovery.proofs.RecoverLemmas.{base_is, begin_end, hold_places}
 
 -- where there was no answer, nothing is refused
-no_answer_why : (volume : Expected) (objects : Objects) (error : RecoverError) → IsNoAnswer error
-    → IsWhyObjectsRefused volume objects error
-no_answer_why volume objects errors.NoCheckpoint none = absurd none
-no_answer_why volume objects (errors.BadObject number reason) none = absurd none
-no_answer_why volume objects (errors.MissingObject number) none = absurd none
-no_answer_why volume objects errors.StoreFault none = tt
-no_answer_why volume objects errors.OutOfMemory none = tt
+no_answer_why : (volume : Expected) (uuid_at : ℕ → Option (List ℕ)) (objects : Objects) (error : RecoverError) → IsNoAnswer error
+    → IsWhyObjectsRefused volume uuid_at objects error
+no_answer_why volume uuid_at objects errors.NoCheckpoint none = absurd none
+no_answer_why volume uuid_at objects (errors.BadObject number reason) none = absurd none
+no_answer_why volume uuid_at objects (errors.MissingObject number) none = absurd none
+no_answer_why volume uuid_at objects (errors.BaseMissing uuid) none = absurd none
+no_answer_why volume uuid_at objects errors.StoreFault none = tt
+no_answer_why volume uuid_at objects errors.OutOfMemory none = tt
 
 no_answer_refuses : (error : RecoverError) → IsNoAnswer error → IsRefusal error → ⊥
 no_answer_refuses errors.NoCheckpoint none is = none
 no_answer_refuses (errors.BadObject number reason) none is = none
 no_answer_refuses (errors.MissingObject number) none is = none
+no_answer_refuses (errors.BaseMissing uuid) none is = none
 no_answer_refuses errors.StoreFault none is = is
 no_answer_refuses errors.OutOfMemory none is = is
 
-pub no_answer_refused : (volume : Expected) (objects : Objects) (error : RecoverError) → IsNoAnswer error
-    → IsRecoveryRefused volume objects error
-no_answer_refused volume objects error none = record {
-  why = no_answer_why volume objects error none;
-  no_stream = λ uuid_at stream opening number has. no_answer_refuses error none;
+pub no_answer_refused : (volume : Expected) (uuid_at : ℕ → Option (List ℕ)) (objects : Objects) (error : RecoverError)
+    → IsNoAnswer error
+    → IsRecoveryRefused volume uuid_at objects error
+no_answer_refused volume uuid_at objects error none = record {
+  why = no_answer_why volume uuid_at objects error none;
+  no_stream = λ stream opening number has. no_answer_refuses error none;
 }
 
 -- a store without a checkpoint has no stream
-none_refused : (volume : Expected) (objects : Objects) → ((number : ℕ) → IsNoCheckpoint volume objects number)
-    → IsRecoveryRefused volume objects errors.NoCheckpoint
-none_refused volume objects none = record {
+none_refused : (volume : Expected) (uuid_at : ℕ → Option (List ℕ)) (objects : Objects)
+    → ((number : ℕ) → IsNoCheckpoint volume objects number)
+    → IsRecoveryRefused volume uuid_at objects errors.NoCheckpoint
+none_refused volume uuid_at objects none = record {
   why = none;
-  no_stream = λ uuid_at stream opening number has is.
+  no_stream = λ stream opening number has is.
       none stream.number stream.end stream.opening has.stored.opens.is.checkpoint;
 }
 
@@ -161,80 +165,92 @@ module _ (volume : Expected) (objects : Objects) (wide : volume.sectors < 2 ^ 64
         ]
 
 -- each object that the newest checkpoint maps is there
-none_missing : (volume : Expected) (objects : Objects) (wide : volume.sectors < 2 ^ 64) (at : ℕ)
-    → IsMissingThere volume objects at → (uuid_at : ℕ → Option (List ℕ)) (stream : Stream) (opening : Image) (number : ℕ)
+none_missing : (volume : Expected) (uuid_at : ℕ → Option (List ℕ)) (objects : Objects) (wide : volume.sectors < 2 ^ 64) (at : ℕ)
+    → IsMissingThere volume uuid_at objects at → (stream : Stream) (opening : Image) (number : ℕ)
     → HasDataUpTo volume uuid_at objects stream opening number → ⊥
-none_missing volume objects wide at is uuid_at stream opening number has =
+none_missing volume uuid_at objects wide at is stream opening number has =
     let missing = is.missing in
     let newest : IsNewestWithEnd volume objects is.base is.end =
     record { owned = is.owned; is = is.checkpoint; newest = is.newest } in
     let hold = hold_places volume objects is.base is.end wide newest uuid_at stream opening number has in
-    missing.not_there uuid_at has.own (hold missing.k missing.place missing.row)
+    missing.not_there (hold missing.k missing.place missing.row)
 
 -- so what is refused is no stream
-why_no_stream : (volume : Expected) (objects : Objects) (wide : volume.sectors < 2 ^ 64) (error : RecoverError)
-    → IsWhyObjectsRefused volume objects error
-    → (uuid_at : ℕ → Option (List ℕ)) (stream : Stream) (opening : Image) (number : ℕ)
+why_no_stream : (volume : Expected) (uuid_at : ℕ → Option (List ℕ)) (objects : Objects) (wide : volume.sectors < 2 ^ 64)
+    (error : RecoverError)
+    → IsWhyObjectsRefused volume uuid_at objects error
+    → (stream : Stream) (opening : Image) (number : ℕ)
     → HasDataUpTo volume uuid_at objects stream opening number → IsRefusal error → ⊥
-why_no_stream volume objects wide errors.NoCheckpoint why uuid_at stream opening number has is =
+why_no_stream volume uuid_at objects wide errors.NoCheckpoint why stream opening number has is =
     why stream.number stream.end stream.opening has.stored.opens.is.checkpoint
-why_no_stream volume objects wide (errors.BadObject at reason) why uuid_at stream opening number has is =
+why_no_stream volume uuid_at objects wide (errors.BadObject at reason) why stream opening number has is =
     none_bad volume objects wide uuid_at stream opening number has why.0 why.1 why.2 at reason why.3.after why.3.bad
-why_no_stream volume objects wide (errors.MissingObject at) why uuid_at stream opening number has is =
-    none_missing volume objects wide at why uuid_at stream opening number has
-why_no_stream volume objects wide errors.StoreFault why uuid_at stream opening number has is = is
-why_no_stream volume objects wide errors.OutOfMemory why uuid_at stream opening number has is = is
+why_no_stream volume uuid_at objects wide (errors.MissingObject at) why stream opening number has is =
+    none_missing volume uuid_at objects wide at why stream opening number has
+why_no_stream volume uuid_at objects wide (errors.BaseMissing uuid) why stream opening number has is = why
+why_no_stream volume uuid_at objects wide errors.StoreFault why stream opening number has is = is
+why_no_stream volume uuid_at objects wide errors.OutOfMemory why stream opening number has is = is
 
-pub is_refused : (volume : Expected) (objects : Objects) (wide : volume.sectors < 2 ^ 64) (error : RecoverError)
-    → IsWhyObjectsRefused volume objects error
-    → IsRecoveryRefused volume objects error
-is_refused volume objects wide error why = record { why = why; no_stream = why_no_stream volume objects wide error why }
+pub is_refused : (volume : Expected) (uuid_at : ℕ → Option (List ℕ)) (objects : Objects) (wide : volume.sectors < 2 ^ 64)
+    (error : RecoverError)
+    → IsWhyObjectsRefused volume uuid_at objects error
+    → IsRecoveryRefused volume uuid_at objects error
+is_refused volume uuid_at objects wide error why = record {
+  why = why;
+  no_stream = why_no_stream volume uuid_at objects wide error why;
+}
 
 -- ---- where the store tells its objects
 
 -- for the proofs of callers: an error that is no answer refuses nothing
-pub told_no_answer : (told : Option Objects) (volume : Expected) (error : RecoverError) → IsNoAnswer error
-    → IfSome told (λ objects. IsRecoveryRefused volume objects error)
-told_no_answer None volume error none = tt
-told_no_answer (Some objects) volume error none = no_answer_refused volume objects error none
+pub told_no_answer : (told : Option Objects) (volume : Expected) (uuid_at : ℕ → Option (List ℕ)) (error : RecoverError)
+    → IsNoAnswer error
+    → IfSome told (λ objects. IsRecoveryRefused volume uuid_at objects error)
+told_no_answer None volume uuid_at error none = tt
+told_no_answer (Some objects) volume uuid_at error none = no_answer_refused volume uuid_at objects error none
 
 -- what names of objects tell: whichever volume they are of, it has no checkpoint, or this is its newest
-abbrev pub HasNoneAmong : Geometry → List ObjName → Objects → Type 0
-HasNoneAmong geometry names objects =
+abbrev pub HasNoneAmong : Geometry → (ancestors : ℕ) → List ObjName → Objects → Type 0
+HasNoneAmong geometry ancestors names objects =
     (uuid : List ℕ) (number : ℕ) → IsUuid uuid → Lists uuid objects names
-    → IsNoCheckpoint (expected_of uuid geometry) objects number
+    → IsNoCheckpoint (expected_of uuid geometry ancestors) objects number
 
-abbrev pub IsNewestAmong : Geometry → List ObjName → ReadCheckpoint → Objects → Type 0
-IsNewestAmong geometry names newest objects =
+abbrev pub IsNewestAmong : Geometry → (ancestors : ℕ) → List ObjName → ReadCheckpoint → Objects → Type 0
+IsNewestAmong geometry ancestors names newest objects =
     (uuid : List ℕ) → IsUuid uuid → Lists uuid objects names
-    → IsStoredCheckpoint (expected_of uuid geometry) objects newest
-    × IsNewest (expected_of uuid geometry) objects newest.number
+    → IsStoredCheckpoint (expected_of uuid geometry ancestors) objects newest
+    × IsNewest (expected_of uuid geometry ancestors) objects newest.number
 
-pub newest_refused : (told : Option Objects) (uuid : List ℕ) (geometry : Geometry) (names : List ObjName) (error : RecoverError)
+pub newest_refused : (told : Option Objects) (uuid : List ℕ) (geometry : Geometry) (ancestors : ℕ) (uuid_at : ℕ → Option (List ℕ))
+    (names : List ObjName) (error : RecoverError)
     → IsUuid uuid → IfSome told (λ objects. Lists uuid objects names) → ((error ≡ errors.NoCheckpoint) ⊎ IsNoAnswer error)
-    → (error ≡ errors.NoCheckpoint → IfSome told (HasNoneAmong geometry names))
-    → IfSome told (λ objects. IsRecoveryRefused (expected_of uuid geometry) objects error)
-newest_refused None uuid geometry names error is_uuid listed answer none = tt
-newest_refused (Some objects) uuid geometry names error is_uuid listed answer none =
-    let volume = expected_of uuid geometry in
+    → (error ≡ errors.NoCheckpoint → IfSome told (HasNoneAmong geometry ancestors names))
+    → IfSome told (λ objects. IsRecoveryRefused (expected_of uuid geometry ancestors) uuid_at objects error)
+newest_refused None uuid geometry ancestors uuid_at names error is_uuid listed answer none = tt
+newest_refused (Some objects) uuid geometry ancestors uuid_at names error is_uuid listed answer none =
+    let volume = expected_of uuid geometry ancestors in
     elim answer [
-      | inl no_checkpoint ↦ subst (IsRecoveryRefused volume objects) (sym no_checkpoint)
-          (none_refused volume objects (λ number. none no_checkpoint uuid number is_uuid listed))
-      | inr no_answer ↦ no_answer_refused volume objects error no_answer
+      | inl no_checkpoint ↦ subst (IsRecoveryRefused volume uuid_at objects) (sym no_checkpoint)
+          (none_refused volume uuid_at objects (λ number. none no_checkpoint uuid number is_uuid listed))
+      | inr no_answer ↦ no_answer_refused volume uuid_at objects error no_answer
     ]
 
 -- so the recovery of this volume begins at it
-pub newest_begins : (told : Option Objects) (uuid : List ℕ) (geometry : Geometry) (names : List ObjName) (newest : ReadCheckpoint)
-    → IsUuid uuid → IfSome told (λ objects. Lists uuid objects names) → IfSome told (IsNewestAmong geometry names newest)
-    → (others : List ObjName) → names ≡ others → IfSome told (IsRecoveryBegun uuid geometry newest others)
-newest_begins None uuid geometry names newest is_uuid listed is others same = tt
-newest_begins (Some objects) uuid geometry names newest is_uuid listed is others same =
+pub newest_begins : (told : Option Objects) (uuid : List ℕ) (geometry : Geometry) (ancestors : ℕ) (names : List ObjName)
+    (newest : ReadCheckpoint)
+    → IsUuid uuid → IfSome told (λ objects. Lists uuid objects names)
+    → IfSome told (IsNewestAmong geometry ancestors names newest)
+    → (others : List ObjName) → names ≡ others → IfSome told (IsRecoveryBegun uuid geometry ancestors newest others)
+newest_begins None uuid geometry ancestors names newest is_uuid listed is others same = tt
+newest_begins (Some objects) uuid geometry ancestors names newest is_uuid listed is others same =
     let here = is uuid is_uuid listed in
     record { stored = here.0; newest = here.1; listed = subst (Lists uuid objects) same listed }
 
 -- what is expected of the volume of a list
-pub volume_is : (uuid : List ℕ) (geometry : Geometry) (number end : ℕ) (log : ObjLogState)
-    → IsListUpTo uuid geometry number end log
-    → expected_of_volume log ≡ expected_of uuid geometry
-volume_is uuid geometry number end log list =
-    ap (λ (u : List ℕ). expected_of u log.batch.geometry) list.uuid_is ∙ ap (expected_of uuid) list.geometry_is
+pub volume_is : (uuid : List ℕ) (geometry : Geometry) (ancestors number end : ℕ) (log : ObjLogState)
+    → IsListUpTo uuid geometry ancestors number end log
+    → expected_of_volume log ≡ expected_of uuid geometry ancestors
+volume_is uuid geometry ancestors number end log list =
+    ap (λ (u : List ℕ). expected_of u log.batch.geometry log.uploads.ancestors) list.uuid_is
+    ∙ ap (λ sizes. expected_of uuid sizes log.uploads.ancestors) list.geometry_is
+    ∙ ap (expected_of uuid geometry) list.ancestors_are

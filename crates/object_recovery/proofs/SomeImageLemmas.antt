@@ -34,11 +34,10 @@ gives None at inside = absurd inside
 gives (Some object) at inside = (inside, told_is object.receipt.told (object.front + at))
 
 holds : (queue : QueueState) (held : Option ObjectPlace)
-    → ((place : ObjectPlace) → held ≡ Some place → (place.level ≡ 0) × IsInsideObject (stored_at queue place) place.sector)
+    → ((place : ObjectPlace) → held ≡ Some place → IsInsideObject (stored_at queue place) place.sector)
     → HoldsSector queue held (sector_held queue held)
 holds queue None inside = refl
-holds queue (Some place) inside = let here = inside place refl in
-    (here.0, gives (stored_at queue place) place.sector here.1)
+holds queue (Some place) inside = gives (stored_at queue place) place.sector (inside place refl)
 
 -- so many sectors from one on
 abbrev sectors_from : QueueState → (first count : ℕ) → Image
@@ -74,5 +73,5 @@ list_has_some_image sectors log inside =
     let is : sector_held queue (settled_at queue.maps k) ≡ sector =
     ap (λ n. sector_held queue (settled_at queue.maps n)) (sym here) ∙ sector_is queue 0 sectors k sector at in
     subst (HoldsSector queue (settled_at queue.maps k)) is (holds queue (settled_at queue.maps k)
-    (λ place there. let here = inside k place there in (here.1, here.2))) in
+    (λ place there. (inside k place there).1)) in
     (sectors_from queue 0 sectors, count_is queue 0 sectors, has)

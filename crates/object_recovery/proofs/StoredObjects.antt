@@ -1,13 +1,14 @@
 -- An object that the store has, by its receipt and its row of the table.
-use Rattle.std.proofs.Common.{◌≡◌, ℕ, ◌==◌, true, false, cond, Bool, Some, None, List, [], ◌∷◌, ◌++◌}
+use Rattle.std.proofs.Common.{◌≡◌, ℕ, ◌==◌, true, false, cond, Bool, Some, List, [], ◌∷◌, ◌++◌}
 use Rattle.std.proofs.Common.{map, refl, sym, ◌∙◌, ap, arith}
 use Rattle.std.proofs.lemmas.Bool.Decides.{nat_tests}
 use Rattle.lsvd_objstore.specs.Store.{ReceiptState}
+use Rattle.object_stream.specs.declared.owner.Owner.{Owner}
 use Rattle.object_table.specs.declared.row.ObjectRow.{ObjectRow}
 use Rattle.object_table.specs.Table.{row_of, new_row}
 use Rattle.volume_maps.specs.declared.place.ObjectPlace.{ObjectPlace}
 use Rattle.object_uploads.specs.State.{NumberedReceipt, QueueState}
-use Rattle.object_uploads.specs.Queue.{receipt_in, stored_with, stored_at}
+use Rattle.object_uploads.specs.Queue.{receipt_in, stored_with, inherited_in, stored_at}
 use Rattle.object_uploads.proofs.StoredLemmas.{front_in, fixed, first_row, first_receipt, same_front, same_stored}
 
 -- what the store gave for the object of a number, and the sectors before its payload
@@ -72,6 +73,7 @@ pub stored_is : (queue : QueueState) (place : ObjectPlace) (receipt : ReceiptSta
 stored_is queue place receipt front own has =
     let row = row_of place.number queue.maps.objects.rows in
     let test : (place.level == 0) ≡ true = grind (arith, nat_tests) in
-    ap (λ b. cond b (stored_with (receipt_in queue.receipts place.number) row) None) test
+    let owner : Owner = record { level = place.level; number = place.number } in
+    ap (λ b. cond b (stored_with (receipt_in queue.receipts place.number) row) (inherited_in queue.inherited owner)) test
     ∙ ap (λ r. stored_with r row) has.receipt_is
     ∙ same_stored (Some receipt) row (Some (new_row 0 0 front)) has.front_is

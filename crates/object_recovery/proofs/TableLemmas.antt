@@ -35,7 +35,7 @@ use Rattle.obj_log.specs.State.{ObjLogState}
 use Rattle.obj_log.specs.Changes.{expected_of_volume}
 use Rattle.object_recovery.specs.Adoption.{AdoptsNext, KeepsKnown, KeepsTable}
 use Rattle.object_recovery.specs.Recovery.{IsListUpTo}
-use Rattle.object_recovery.specs.Table.{HasTableUnheld, HasPayloadThere, ArePayloadsThere, KnowsObjects}
+use Rattle.object_recovery.specs.Table.{HasTableUnheld, HasPayloadThere, ArePayloadsThere, IsUpTo, KnowsObjects}
 use Rattle.object_recovery.proofs.AdoptionLemmas.{no_checkpoint}
 use Rattle.object_recovery.proofs.PayloadLemmas.{joined_payload, joined_front, payload_there}
 use Rattle.object_recovery.proofs.PlaceLemmas.{so_some, some_so}
@@ -77,17 +77,17 @@ row_of_last (first ∷ rows) row low =
 -- ---- places
 
 -- a row puts sectors into its own object alone
-no_other : (number : ℕ) (at : Option ℕ) (i : ℕ) (place : ObjectPlace) → (place.number ≡ number → ⊥)
+no_other : (number : ℕ) (at : Option ℕ) (i : ℕ) (place : ObjectPlace) → (place.level ≡ 0 → place.number ≡ number → ⊥)
     → row_object_place number at i ≡ Some place → ⊥
 no_other number None i place other is = cc
 no_other number (Some at) i place other is =
     let own : ObjectPlace = record { level = 0; number = number; sector = at + i } in
     let same : own ≡ place = cc in
-    other (sym (ap (λ (p : ObjectPlace). p.number) same))
+    other (sym (ap (λ (p : ObjectPlace). p.level) same)) (sym (ap (λ (p : ObjectPlace). p.number) same))
 
 -- so where a sector is in another object once they were settled, it was there before
 was_settled : (number : ℕ) (rows : List DataRow) (before : Option ObjectPlace) (k : ℕ) (place : ObjectPlace)
-    → (place.number ≡ number → ⊥) → settled_by number rows before k ≡ Some place → before ≡ Some place
+    → (place.level ≡ 0 → place.number ≡ number → ⊥) → settled_by number rows before k ≡ Some place → before ≡ Some place
 was_settled number [] before k place other is = is
 was_settled number (row ∷ rows) before k place other is =
     elim (is_within row.lba row.sectors k) as (λ b.
@@ -98,19 +98,19 @@ was_settled number (row ∷ rows) before k place other is =
 
 -- so it is once the copy of a number was
 was_in_copy_row : (number : ℕ) (row : CopyRow) (before : Option ObjectPlace) (k : ℕ) (place : ObjectPlace)
-    → (place.number ≡ number → ⊥) → settled_by_copy_row number row before k ≡ Some place → before ≡ Some place
+    → (place.level ≡ 0 → place.number ≡ number → ⊥) → settled_by_copy_row number row before k ≡ Some place → before ≡ Some place
 was_in_copy_row number row before k place other is =
     let own : ObjectPlace = record { level = 0; number = number; sector = row.place + (k - row.lba) } in
     elim (is_within row.lba row.sectors k && is_live row.source.number before) as (λ b.
     cond b (Some own) before ≡ Some place → before ≡ Some place) [
       | true ↦ λ is_own.
           let same : own ≡ place = cc in
-          absurd (other (sym (ap (λ (p : ObjectPlace). p.number) same)))
+          absurd (other (sym (ap (λ (p : ObjectPlace). p.level) same)) (sym (ap (λ (p : ObjectPlace). p.number) same)))
       | false ↦ λ was. was
     ] is
 
 was_copied : (number : ℕ) (rows : List CopyRow) (before : Option ObjectPlace) (k : ℕ) (place : ObjectPlace)
-    → (place.number ≡ number → ⊥) → settled_by_copy number rows before k ≡ Some place → before ≡ Some place
+    → (place.level ≡ 0 → place.number ≡ number → ⊥) → settled_by_copy number rows before k ≡ Some place → before ≡ Some place
 was_copied number [] before k place other is = is
 was_copied number (row ∷ rows) before k place other is =
     was_in_copy_row number row before k place other
@@ -123,8 +123,8 @@ pub record HasJoined (payload front : ℕ) (old new : QueueState) : Type 0 where
   pub objects : HasSameObjects (added (new_row (old.frontier + 1) payload front) old.maps.objects) new.maps.objects
   pub frontier : new.frontier ≡ old.frontier + 1
   pub removal : new.removal ≡ old.removal
-  pub was : (k : ℕ) (place : ObjectPlace) → (place.number ≡ old.frontier + 1 → ⊥) → settled_at new.maps k ≡ Some place
-      → settled_at old.maps k ≡ Some place
+  pub was : (k : ℕ) (place : ObjectPlace) → (place.level ≡ 0 → place.number ≡ old.frontier + 1 → ⊥)
+      → settled_at new.maps k ≡ Some place → settled_at old.maps k ≡ Some place
 
 pub has_joined : (rows : SealedRows) (end : ℕ) (receipt : ReceiptState) (old new : QueueState) → is_checkpoint rows ≡ false
     → IsNextSettled rows end receipt old new → HasJoined (joined_payload receipt.size rows) (joined_front rows) old new
@@ -285,10 +285,10 @@ module _ (payload front : ℕ) (old new : QueueState) (next : HasJoined payload 
               (knows.unmapped end owned checkpoint n) row (sym (other_row n low) ∙ at)
         ]
 
-    was_there : (k : ℕ) (place : ObjectPlace) → settled_at new.maps k ≡ Some place → place.number ≤ base
+    was_there : (k : ℕ) (place : ObjectPlace) → settled_at new.maps k ≡ Some place → IsUpTo base place
         → settled_at old.maps k ≡ Some place
     was_there k place at low =
-        next.was k place (λ same. omega (arith, same, low, from)) at
+        next.was k place (λ own same. omega (arith, same, low own, from)) at
 
     -- each object that the map has a sector in has the payload of its row
     payload_at : (n : ℕ) (other : ObjectRow) → row_of n all ≡ Some other
@@ -308,13 +308,13 @@ module _ (payload front : ℕ) (old new : QueueState) (next : HasJoined payload 
         ]
 
     payloads : ArePayloadsThere volume objects new
-    payloads k place at =
+    payloads k place at level =
         let n = place.number in
         so_some (λ (r : ObjectRow). HasPayloadThere volume objects n r.payload) (row_of n new.maps.objects.rows)
         (λ row its.
         let other = was n row its in
         subst (HasPayloadThere volume objects n) (ap (λ (r : ObjectRow). r.payload) other.2)
-        (payload_at n other.0 other.1 (λ elsewhere. knows.payloads k place (next.was k place elsewhere at))))
+        (payload_at n other.0 other.1 (λ elsewhere. knows.payloads k place (next.was k place (λ own. elsewhere) at) level)))
 
     pub knows_kept : KnowsObjects volume objects base new
     knows_kept = record {
@@ -344,13 +344,15 @@ table_more Tells told begun old new adopts keeps checkpoint has =
     (adopted_joins Tells told old new adopts) adopts.order.known.within checkpoint adopts.order.known.checkpoint
     (keeps checkpoint has)
 
-pub told_knows : (told : Option Objects) (volume : Expected) (Tells : Type 0) (uuid : List ℕ) (geometry : Geometry) (end : ℕ)
+pub told_knows : (told : Option Objects) (volume : Expected) (Tells : Type 0) (uuid : List ℕ) (geometry : Geometry)
+    (ancestors end : ℕ)
     (begun old new : ObjLogState)
-    → expected_of_volume old ≡ volume → IsListUpTo uuid geometry old.uploads.window.last end old
+    → expected_of_volume old ≡ volume → IsListUpTo uuid geometry ancestors old.uploads.window.last end old
     → begun.uploads.queue.frontier ≤ old.uploads.window.last → Tells → AdoptsNext Tells told old new
     → IfSome told (λ objects. KeepsKnown volume objects begun old) → IfSome told (λ objects. KeepsKnown volume objects begun new)
-told_knows None volume Tells uuid geometry end begun old new same is from tells adopts keeps = tt
-told_knows (Some objects) volume Tells uuid geometry end begun old new same is from tells adopts keeps = λ base low knows.
+told_knows None volume Tells uuid geometry ancestors end begun old new same is from tells adopts keeps = tt
+told_knows (Some objects) volume Tells uuid geometry ancestors end begun old new same is from tells adopts keeps =
+    λ base low knows.
     let payload = joined_payload adopts.receipt.size adopts.rows in
     let own = payload_there objects (expected_of_volume old) (old.uploads.window.last + 1) old.batch.first adopts.rows adopts.end
     adopts.receipt (adopts.stored tells) in

@@ -19,11 +19,12 @@ use Rattle.object_recovery.proofs.EarlierLemmas.{Ascend}
 use Rattle.object_recovery.proofs.TakenLemmas.{taken_push, taken_below}
 
 -- nothing but what was found changed
-pub list_same : (uuid : List ℕ) (geometry : Geometry) (number end : ℕ) (old new : ObjLogState)
+pub list_same : (uuid : List ℕ) (geometry : Geometry) (ancestors number end : ℕ) (old new : ObjLogState)
     → IsSameButFound old.uploads new.uploads → new.batch ≡ old.batch
-    → IsListUpTo uuid geometry number end old → IsListUpTo uuid geometry number end new
-list_same uuid geometry number end old new same batch is = record {
+    → IsListUpTo uuid geometry ancestors number end old → IsListUpTo uuid geometry ancestors number end new
+list_same uuid geometry ancestors number end old new same batch is = record {
   uuid_is = same.uuid ∙ is.uuid_is;
+  ancestors_are = same.ancestors ∙ is.ancestors_are;
   geometry_is = ap (λ (b : BatchState). b.geometry) batch ∙ is.geometry_is;
   sectors = same.sectors ∙ is.sectors;
   first = ap (λ (b : BatchState). b.first) batch ∙ is.first;
@@ -36,15 +37,17 @@ list_same uuid geometry number end old new same batch is = record {
 }
 
 -- an object more
-pub taken_more : (uuid : List ℕ) (geometry : Geometry) (number end : ℕ) (earlier : List EarlierObject) (e : EarlierObject)
+pub taken_more : (uuid : List ℕ) (geometry : Geometry) (ancestors number end : ℕ) (earlier : List EarlierObject)
+    (e : EarlierObject)
     (old new : ObjLogState)
-    → TakesUp (expected_of uuid geometry) e old new → HasTakenUp uuid geometry number end earlier old
-    → HasTakenUp uuid geometry number end (earlier ++ e ∷ []) new
-taken_more uuid geometry number end earlier e old new takes is = record {
-  list = list_same uuid geometry number end old new takes.found.rest takes.batch is.list;
+    → TakesUp (expected_of uuid geometry ancestors) e old new → HasTakenUp uuid geometry ancestors number end earlier old
+    → HasTakenUp uuid geometry ancestors number end (earlier ++ e ∷ []) new
+taken_more uuid geometry ancestors number end earlier e old new takes is = record {
+  list = list_same uuid geometry ancestors number end old new takes.found.rest takes.batch is.list;
   objects =
-      subst (AllZip (IsTakenUp (expected_of uuid geometry)) (earlier ++ e ∷ [])) (sym takes.found.rows)
-      (taken_push (expected_of uuid geometry) earlier old.uploads.queue.maps.objects.rows e takes.payload takes.front is.objects
+      subst (AllZip (IsTakenUp (expected_of uuid geometry ancestors)) (earlier ++ e ∷ [])) (sym takes.found.rows)
+      (taken_push (expected_of uuid geometry ancestors) earlier old.uploads.queue.maps.objects.rows e takes.payload takes.front
+      is.objects
       takes.parts);
   receipts =
       takes.found.receipts ∙ ap (λ l. l ++ receipt_for e ∷ []) is.receipts ∙ sym (map_push receipt_for earlier e);
@@ -54,27 +57,31 @@ taken_more uuid geometry number end earlier e old new takes is = record {
 }
 
 -- those of some objects before the rest were taken up
-pub record TakenUpTo (uuid : List ℕ) (geometry : Geometry) (number end : ℕ) (earlier rest : List EarlierObject)
+pub record TakenUpTo (uuid : List ℕ) (geometry : Geometry) (ancestors number end : ℕ) (earlier rest : List EarlierObject)
     (log : ObjLogState) : Type 0 where
   pub done : List EarlierObject
   pub split : earlier ≡ done ++ rest
-  pub taken : HasTakenUp uuid geometry number end done log
+  pub taken : HasTakenUp uuid geometry ancestors number end done log
 
-pub next_taken : (uuid : List ℕ) (geometry : Geometry) (number end : ℕ) (earlier : List EarlierObject) (e : EarlierObject)
+pub next_taken : (uuid : List ℕ) (geometry : Geometry) (ancestors number end : ℕ) (earlier : List EarlierObject)
+    (e : EarlierObject)
     (rest : List EarlierObject) (old new : ObjLogState)
-    → TakesUp (expected_of uuid geometry) e old new → TakenUpTo uuid geometry number end earlier (e ∷ rest) old
-    → TakenUpTo uuid geometry number end earlier rest new
-next_taken uuid geometry number end earlier e rest old new takes is = record {
+    → TakesUp (expected_of uuid geometry ancestors) e old new
+    → TakenUpTo uuid geometry ancestors number end earlier (e ∷ rest) old
+    → TakenUpTo uuid geometry ancestors number end earlier rest new
+next_taken uuid geometry ancestors number end earlier e rest old new takes is = record {
   done = is.done ++ e ∷ [];
   split = is.split ∙ sym (append_assoc is.done (e ∷ []) rest);
-  taken = taken_more uuid geometry number end is.done e old new takes is.taken;
+  taken = taken_more uuid geometry ancestors number end is.done e old new takes is.taken;
 }
 
-pub all_taken : (uuid : List ℕ) (geometry : Geometry) (number end : ℕ) (earlier rest : List EarlierObject) (log : ObjLogState)
-    → rest ≡ [] → TakenUpTo uuid geometry number end earlier rest log → HasTakenUp uuid geometry number end earlier log
-all_taken uuid geometry number end earlier rest log none is =
+pub all_taken : (uuid : List ℕ) (geometry : Geometry) (ancestors number end : ℕ) (earlier rest : List EarlierObject)
+    (log : ObjLogState)
+    → rest ≡ [] → TakenUpTo uuid geometry ancestors number end earlier rest log
+    → HasTakenUp uuid geometry ancestors number end earlier log
+all_taken uuid geometry ancestors number end earlier rest log none is =
     let all : earlier ≡ is.done = is.split ∙ ap (λ r. is.done ++ r) none ∙ append-nil is.done in
-    subst (λ l. HasTakenUp uuid geometry number end l log) (sym all) is.taken
+    subst (λ l. HasTakenUp uuid geometry ancestors number end l log) (sym all) is.taken
 
 -- the objects before one have lower numbers
 pub below_next : (done : List EarlierObject) (e : EarlierObject) (rest : List EarlierObject) → Ascend (done ++ e ∷ rest)
@@ -93,10 +100,12 @@ next_is_in earlier done e rest split =
     (length done, omega (arith, length-append done (e ∷ rest)), get_or-append_seam done e rest e)
 
 -- a number past those that were taken up is greater than all of the table
-pub newest_next : (uuid : List ℕ) (geometry : Geometry) (number end next : ℕ) (earlier : List EarlierObject) (log : ObjLogState)
-    → HasTakenUp uuid geometry number end earlier log → All (λ (e : EarlierObject). e.number < next) earlier → 0 < next
+pub newest_next : (uuid : List ℕ) (geometry : Geometry) (ancestors number end next : ℕ) (earlier : List EarlierObject)
+    (log : ObjLogState)
+    → HasTakenUp uuid geometry ancestors number end earlier log → All (λ (e : EarlierObject). e.number < next) earlier → 0 < next
     → IsNewest log.uploads.queue.maps.objects next
-newest_next uuid geometry number end next earlier log is below some = record {
-  above_rows = taken_below (expected_of uuid geometry) earlier log.uploads.queue.maps.objects.rows next is.objects below;
+newest_next uuid geometry ancestors number end next earlier log is below some = record {
+  above_rows =
+      taken_below (expected_of uuid geometry ancestors) earlier log.uploads.queue.maps.objects.rows next is.objects below;
   above_checkpoint = omega (arith, is.checkpoint, some);
 }

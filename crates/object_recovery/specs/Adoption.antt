@@ -1,6 +1,7 @@
 -- For this crate's own clauses: how the objects of a store are adopted, and the others judged.
 use Rattle.std.specs.Prelude.{◌≡◌, ℕ, ◌+◌, ◌-◌, ◌^◌, ◌<◌, ◌≤◌, ◌⊎◌, Option, Some, None, IfSome, List, length}
 use Rattle.std.specs.Prelude.{Result, IfOk, IfErr}
+use Rattle.clone_chain.specs.declared.ancestor.Ancestor.{Ancestor}
 use Rattle.lsvd_names.specs.declared.name.ObjName.{ObjName}
 use Rattle.lsvd_base.specs.declared.geometry.Geometry.{Geometry}
 use Rattle.lsvd_fault.specs.Faults.{Counts}
@@ -18,6 +19,7 @@ use Rattle.object_uploads.specs.declared.rows.SealedRows.{SealedRows}
 use Rattle.object_uploads.specs.declared.rows.SealedRows.TheVariants as sealed_rows
 use Rattle.object_uploads.specs.Image.{IsReceiptFor}
 use Rattle.object_uploads.specs.Order.{IsUploads}
+use Rattle.stopped_volume.specs.Ancestors.{uuid_in_chain}
 use Rattle.obj_log.specs.State.{ObjLogState}
 use Rattle.obj_log.specs.Changes.{expected_of_volume, next_of, HasAdoptedObject}
 use Rattle.object_recovery.specs.declared.adoption.Next.{Next}
@@ -179,7 +181,8 @@ RefusesBeside volume objects base names missing error =
 
 -- a list went on from a checkpoint: its objects were adopted up to the first missing number, or before this one
 pub record HasGoneOn (objects : Objects) (old new : ObjLogState) (left : Option Reached) : Type 0 where
-  pub list : IsListUpTo old.uploads.uuid old.batch.geometry new.uploads.window.last new.uploads.queue.end new
+  pub list : IsListUpTo old.uploads.uuid old.batch.geometry old.uploads.ancestors new.uploads.window.last new.uploads.queue.end
+      new
   pub streams : KeepsStreams (expected_of_volume old) objects old new
   pub good : KeepsGood (expected_of_volume old) objects old new
   pub knows : KeepsKnown (expected_of_volume old) objects old new
@@ -199,11 +202,12 @@ StopsWith objects names old error =
 -- how a list goes on from a checkpoint
 pub record GoesOnOf (Tells : Type 0) (log : ObjLogState) (names : List ObjName) (old new : StoreState)
     (result : Result ObjLogState RecoverError) : Type 0 where
-  pub list : IfOk result (λ after. IsListUpTo log.uploads.uuid log.batch.geometry after.uploads.window.last
-      after.uploads.queue.end after)
+  pub list : IfOk result (λ after. IsListUpTo log.uploads.uuid log.batch.geometry log.uploads.ancestors
+      after.uploads.window.last after.uploads.queue.end after)
   pub from : IfOk result (λ after. log.uploads.window.last ≤ after.uploads.window.last)
   pub order : IfOk result (λ after. IsUploads after.uploads)
-  pub places : IfOk result (λ after. HasPlacesInside log.batch.geometry.sectors after.uploads.queue)
+  pub places : IfOk result (λ after. HasPlacesInside log.batch.geometry.sectors log.uploads.queue
+      → HasPlacesInside log.batch.geometry.sectors after.uploads.queue)
   pub table : IfOk result (KeepsTable log)
   pub goes_on : Tells → IfOk result (λ after. IfSome old.objects (λ objects. GoesOnWith objects names log after))
   pub refused : Tells → IfErr result (λ error. IfSome old.objects (λ objects. StopsWith objects names log error))
@@ -211,26 +215,32 @@ pub record GoesOnOf (Tells : Type 0) (log : ObjLogState) (names : List ObjName) 
   pub faults : Counts (ends_by_fault result) old.faults new.faults
 
 -- a recovery begins at the newest checkpoint of a volume, with the names of all its objects
-pub record IsRecoveryBegun (uuid : List ℕ) (geometry : Geometry) (base : ReadCheckpoint) (names : List ObjName)
+pub record IsRecoveryBegun (uuid : List ℕ) (geometry : Geometry) (ancestors : ℕ) (base : ReadCheckpoint) (names : List ObjName)
     (objects : Objects) : Type 0 where
-  pub stored : IsStoredCheckpoint (expected_of uuid geometry) objects base
-  pub newest : IsNewest (expected_of uuid geometry) objects base.number
+  pub stored : IsStoredCheckpoint (expected_of uuid geometry ancestors) objects base
+  pub newest : IsNewest (expected_of uuid geometry ancestors) objects base.number
   pub listed : Lists uuid objects names
+
+-- a list that was recovered, and the uuid of the ancestor that lacks the first object of those that ancestors lack, if they do
+pub record ListedState : Type 0 where
+  pub log : ObjLogState
+  pub absent : Option (List ℕ)
 
 -- How the recovery of a list ends that begins at this checkpoint, with these names. Where bytes are told, and a recovery begins
 -- so in the store, the list is that of what the store has, or the error refuses what it has.
-pub record RecoverListOf (Tells : Type 0) (uuid : List ℕ) (geometry : Geometry) (base : ReadCheckpoint) (names : List ObjName)
-    (old new : StoreState) (result : Result ObjLogState RecoverError) : Type 0 where
-  pub list : IfOk result (λ log. IsListUpTo uuid geometry log.uploads.window.last log.uploads.queue.end log)
-  pub from : IfOk result (λ log. base.number ≤ log.uploads.window.last)
-  pub order : IfOk result (λ log. IsUploads log.uploads)
-  pub places : IfOk result (λ log. HasPlacesInside geometry.sectors log.uploads.queue)
-  pub table : IfOk result (λ log. HasTableUnheld base.number log.uploads.queue)
-  pub recovers : Tells → IfOk result (λ log. IfSome old.objects (λ objects.
-      IsRecoveryBegun uuid geometry base names objects
-      → Recovers (expected_of uuid geometry) base.number objects log))
+pub record RecoverListOf (Tells : Type 0) (uuid : List ℕ) (geometry : Geometry) (chain : List Ancestor) (base : ReadCheckpoint)
+    (names : List ObjName) (old new : StoreState) (result : Result ListedState RecoverError) : Type 0 where
+  pub list : IfOk result (λ it. IsListUpTo uuid geometry (length chain) it.log.uploads.window.last it.log.uploads.queue.end
+      it.log)
+  pub from : IfOk result (λ it. base.number ≤ it.log.uploads.window.last)
+  pub order : IfOk result (λ it. IsUploads it.log.uploads)
+  pub places : IfOk result (λ it. it.absent ≡ None → HasPlacesInside geometry.sectors it.log.uploads.queue)
+  pub table : IfOk result (λ it. HasTableUnheld base.number it.log.uploads.queue)
+  pub recovers : Tells → IfOk result (λ it. IfSome old.objects (λ objects.
+      IsRecoveryBegun uuid geometry (length chain) base names objects
+      → Recovers (expected_of uuid geometry (length chain)) (uuid_in_chain uuid chain) base.number objects it.log it.absent))
   pub refused : Tells → IfErr result (λ error. IfSome old.objects (λ objects.
-      IsRecoveryBegun uuid geometry base names objects
-      → IsRecoveryRefused (expected_of uuid geometry) objects error))
+      IsRecoveryBegun uuid geometry (length chain) base names objects
+      → IsRecoveryRefused (expected_of uuid geometry (length chain)) (uuid_in_chain uuid chain) objects error))
   pub unchanged : OnlyCounts old new
   pub faults : Counts (ends_by_fault result) old.faults new.faults

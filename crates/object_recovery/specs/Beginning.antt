@@ -1,6 +1,7 @@
 -- Contract: how a list begins with the newest checkpoint: with its rows, and the objects before it that the store has.
-use Rattle.std.specs.Prelude.{◌≡◌, ℕ, ◌≤◌, Bool, true, false, Option, Some, None, IfSome, option_map, List, [], map}
+use Rattle.std.specs.Prelude.{◌≡◌, ℕ, ◌≤◌, Bool, true, false, Option, Some, None, IfSome, option_map, List, [], map, length}
 use Rattle.std.specs.List.{AllZip}
+use Rattle.clone_chain.specs.declared.ancestor.Ancestor.{Ancestor}
 use Rattle.lsvd_base.specs.declared.geometry.Geometry.{Geometry}
 use Rattle.lsvd_base.specs.Image.{Image}
 use Rattle.lsvd_names.specs.declared.name.ObjName.{ObjName}
@@ -17,6 +18,7 @@ use Rattle.ckpt_format.specs.declared.place.StoredPlace.{StoredPlace}
 use Rattle.ckpt_format.specs.Places.{stored_on}
 use Rattle.ckpt_format.specs.Checkpoint.{IsCheckpoint}
 use Rattle.object_stream.specs.Value.{IsValue}
+use Rattle.stopped_volume.specs.Ancestors.{uuid_in_chain}
 use Rattle.stopped_volume.specs.Expected.{expected_alone}
 use Rattle.stopped_volume.specs.Opening.{owned_by, HoldPlaces}
 use Rattle.object_table.specs.declared.row.ObjectRow.{ObjectRow}
@@ -37,32 +39,33 @@ use Rattle.object_recovery.specs.Missing.{IsMissing}
 use Rattle.object_recovery.specs.Earlier.{EarlierObject}
 use Rattle.object_recovery.specs.Places.{HasPlacesInside}
 use Rattle.object_recovery.specs.Recovery.{IsListUpTo}
-use Rattle.object_recovery.specs.Table.{HasTableUnheld, KnowsObjects, AreNamedThere}
+use Rattle.object_recovery.specs.Table.{HasTableUnheld, KnowsObjects, FindsNamed}
 
 -- Where all places of rows hold their sectors, the objects of a list have the image that is the value of the rows' owners, and
 -- each receipt is for the object's own bytes.
-abbrev pub HasValue : (volume : Expected) → Objects → List (Extent StoredPlace) → ObjLogState → Type 0
-HasValue volume objects rows log =
-    (uuid_at : ℕ → Option (List ℕ)) (image : Image) → uuid_at 0 ≡ Some volume.uuid → HoldPlaces objects uuid_at rows
+abbrev pub HasValue : (ℕ → Option (List ℕ)) → Objects → List (Extent StoredPlace) → ObjLogState → Type 0
+HasValue uuid_at objects rows log =
+    (image : Image) → HoldPlaces objects uuid_at rows
     → IsValue objects uuid_at (owned_by rows) image → HasImage image log.uploads.queue × HasOwnReceipts log.uploads.queue
 
 -- A list begins with a checkpoint of these rows: all is acknowledged up to it, the objects' map has its places, each inside an
--- object that the store has, and the table is from it on, before any hold is read.
-pub record BeginsList (uuid : List ℕ) (geometry : Geometry) (checkpoint : ReadCheckpoint) (rows : List (Extent StoredPlace))
-    (log : ObjLogState) : Type 0 where
-  pub list : IsListUpTo uuid geometry checkpoint.number checkpoint.end log
+-- object that the store has where no ancestor lacks one, and the table is from it on, before any hold is read.
+pub record BeginsList (uuid : List ℕ) (geometry : Geometry) (ancestors : ℕ) (checkpoint : ReadCheckpoint)
+    (rows : List (Extent StoredPlace)) (log : ObjLogState) (absent : Option (List ℕ)) : Type 0 where
+  pub list : IsListUpTo uuid geometry ancestors checkpoint.number checkpoint.end log
   pub order : IsUploads log.uploads
-  pub places : HasPlacesInside geometry.sectors log.uploads.queue
+  pub places : absent ≡ None → HasPlacesInside geometry.sectors log.uploads.queue
   pub owners_are : (k : ℕ) → place_owner (settled_at log.uploads.queue.maps k) ≡ owned_by rows k
   pub table : HasTableUnheld checkpoint.number log.uploads.queue
 
 -- A list begins with what the store has: its objects have the value of the rows of the checkpoint of this number, its table has
--- just the objects that the store has up to it, and each place of the rows is in one of these.
-pub record BeginsInStore (volume : Expected) (objects : Objects) (number : ℕ) (rows : List (Extent StoredPlace))
-    (log : ObjLogState) : Type 0 where
-  pub value : HasValue volume objects rows log
+-- just the objects that the store has up to it, and each place of the rows is in an object that the store has, but for those in
+-- objects that ancestors lack.
+pub record BeginsInStore (volume : Expected) (uuid_at : ℕ → Option (List ℕ)) (objects : Objects) (number : ℕ)
+    (rows : List (Extent StoredPlace)) (log : ObjLogState) (absent : Option (List ℕ)) : Type 0 where
+  pub value : HasValue uuid_at objects rows log
   pub knows : KnowsObjects volume objects number log.uploads.queue
-  pub named : AreNamedThere volume objects rows
+  pub finds : FindsNamed volume uuid_at objects rows absent
 
 -- ---- an object before the checkpoint
 
@@ -117,10 +120,10 @@ abbrev pub receipt_for : EarlierObject → NumberedReceipt
 receipt_for e = record { number = e.number; receipt = e.receipt }
 
 -- A list has just these objects before its checkpoint, and no row is entered yet.
-pub record HasTakenUp (uuid : List ℕ) (geometry : Geometry) (number end : ℕ) (earlier : List EarlierObject) (log : ObjLogState) :
-    Type 0 where
-  pub list : IsListUpTo uuid geometry number end log
-  pub objects : AllZip (IsTakenUp (expected_of uuid geometry)) earlier log.uploads.queue.maps.objects.rows
+pub record HasTakenUp (uuid : List ℕ) (geometry : Geometry) (ancestors number end : ℕ) (earlier : List EarlierObject)
+    (log : ObjLogState) : Type 0 where
+  pub list : IsListUpTo uuid geometry ancestors number end log
+  pub objects : AllZip (IsTakenUp (expected_of uuid geometry ancestors)) earlier log.uploads.queue.maps.objects.rows
   pub receipts : log.uploads.queue.receipts ≡ map receipt_for earlier
   pub removal : log.uploads.queue.removal ≡ None
   pub checkpoint : log.uploads.queue.maps.objects.checkpoint ≡ 0
@@ -128,9 +131,9 @@ pub record HasTakenUp (uuid : List ℕ) (geometry : Geometry) (number end : ℕ)
 
 -- ---- the rows of the checkpoint
 
--- the objects' map may take the rows
+-- the objects' map may take the rows: the table has each object of the volume's own that they name
 abbrev pub MayMap : List (Extent StoredPlace) → ObjLogState → Type 0
-MayMap rows log = (k : ℕ) (place : StoredPlace) → place_at stored_on rows k ≡ Some place
+MayMap rows log = (k : ℕ) (place : StoredPlace) → place_at stored_on rows k ≡ Some place → place.level ≡ 0
     → MayGain place.number log.uploads.queue.maps.objects
 
 -- The rows were entered into the objects' map, in which none was.
@@ -144,16 +147,18 @@ pub record HasRows (rows : List (Extent StoredPlace)) (old new : ObjLogState) : 
 -- ---- the whole
 
 -- how a list begins with a checkpoint, or which object is missing, as far as bytes are told
-abbrev pub BeginsWith : {R : Type 0} → (Tells : Type 0) → (uuid : List ℕ) → Geometry → ReadCheckpoint → List ObjName
-    → Option Objects → Beginning R → Type 0
-BeginsWith Tells uuid geometry checkpoint names objects (begins.List log) =
+abbrev pub BeginsWith : {R : Type 0} → (Tells : Type 0) → (uuid : List ℕ) → Geometry → List Ancestor → ReadCheckpoint
+    → List ObjName → Option Objects → Beginning R → Type 0
+BeginsWith Tells uuid geometry chain checkpoint names objects (begins.List log absent) =
     (rows : List (Extent StoredPlace))
-    × IsCheckpoint checkpoint.bytes (expected_alone (expected_of uuid geometry) checkpoint.number) checkpoint.end rows
-    × BeginsList uuid geometry checkpoint rows log
+    × IsCheckpoint checkpoint.bytes (expected_alone (expected_of uuid geometry (length chain)) checkpoint.number) checkpoint.end
+    rows
+    × BeginsList uuid geometry (length chain) checkpoint rows log absent
     × (Tells → IfSome objects (λ objects. Lists uuid objects names
-    → IsStoredCheckpoint (expected_of uuid geometry) objects checkpoint
-    → BeginsInStore (expected_of uuid geometry) objects checkpoint.number rows log))
-BeginsWith Tells uuid geometry checkpoint names objects (begins.Missing number) =
+    → IsStoredCheckpoint (expected_of uuid geometry (length chain)) objects checkpoint
+    → BeginsInStore (expected_of uuid geometry (length chain)) (uuid_in_chain uuid chain) objects checkpoint.number rows log
+    absent))
+BeginsWith Tells uuid geometry chain checkpoint names objects (begins.Missing number) =
     Tells → IfSome objects (λ objects. Lists uuid objects names → (end : ℕ) (rows : List (Extent StoredPlace))
-    → IsCheckpoint checkpoint.bytes (expected_alone (expected_of uuid geometry) checkpoint.number) end rows
-    → IsMissing (expected_of uuid geometry) objects rows number)
+    → IsCheckpoint checkpoint.bytes (expected_alone (expected_of uuid geometry (length chain)) checkpoint.number) end rows
+    → IsMissing (uuid_in_chain uuid chain) objects rows number)

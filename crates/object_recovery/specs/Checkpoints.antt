@@ -16,9 +16,15 @@ use Rattle.object_stream.specs.Stream.{Owners}
 use Rattle.stopped_volume.specs.Expected.{expected_alone}
 use Rattle.stopped_volume.specs.Opening.{IsCheckpointOf}
 
--- what is expected of the objects of a volume without ancestors, but for their numbers and ends
-abbrev pub expected_of : (uuid : List ℕ) → Geometry → Expected
-expected_of uuid geometry = record { uuid = uuid; number = 0; sectors = geometry.sectors; ancestors = 0; end_before = None }
+-- what is expected of the objects of a volume with so many ancestors, but for their numbers and ends
+abbrev pub expected_of : (uuid : List ℕ) → Geometry → (ancestors : ℕ) → Expected
+expected_of uuid geometry ancestors = record {
+  uuid = uuid;
+  number = 0;
+  sectors = geometry.sectors;
+  ancestors = ancestors;
+  end_before = None;
+}
 
 -- the store has no checkpoint of the grammar under this number
 abbrev pub IsNoCheckpoint : Expected → Objects → (number : ℕ) → Type 0
@@ -43,18 +49,18 @@ pub record IsStoredCheckpoint (volume : Expected) (objects : Objects) (checkpoin
   pub receipt : IsReceiptOf (object_name volume checkpoint.number) checkpoint.bytes checkpoint.receipt
 
 -- the checkpoint that the store has under this name was read; none where the name is no checkpoint's
-abbrev pub IsCheckpointNamed : Geometry → Objects → ObjName → Option ReadCheckpoint → Type 0
-IsCheckpointNamed geometry objects name None = name.kind ≡ Object
-    → IsNoCheckpoint (expected_of name.uuid geometry) objects name.number
-IsCheckpointNamed geometry objects name (Some checkpoint) =
+abbrev pub IsCheckpointNamed : Geometry → (ancestors : ℕ) → Objects → ObjName → Option ReadCheckpoint → Type 0
+IsCheckpointNamed geometry ancestors objects name None = name.kind ≡ Object
+    → IsNoCheckpoint (expected_of name.uuid geometry ancestors) objects name.number
+IsCheckpointNamed geometry ancestors objects name (Some checkpoint) =
     (name.kind ≡ Object) × (checkpoint.number ≡ name.number)
-    × IsStoredCheckpoint (expected_of name.uuid geometry) objects checkpoint
+    × IsStoredCheckpoint (expected_of name.uuid geometry ancestors) objects checkpoint
 
 -- those of names from an index on are no checkpoints
-abbrev pub HasNoneFrom : Geometry → Objects → List ObjName → (index : ℕ) → Type 0
-HasNoneFrom geometry objects names index =
+abbrev pub HasNoneFrom : Geometry → (ancestors : ℕ) → Objects → List ObjName → (index : ℕ) → Type 0
+HasNoneFrom geometry ancestors objects names index =
     (k : ℕ) (name : ObjName) → index ≤ k → k < length names → slice_index_or names k name ≡ name
-    → IsCheckpointNamed geometry objects name None
+    → IsCheckpointNamed geometry ancestors objects name None
 
 -- each is a name
 abbrev pub AreNames : List ObjName → Type 0

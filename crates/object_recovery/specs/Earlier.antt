@@ -73,16 +73,22 @@ pub record FindsFirst (uuid : List ℕ) (names : List ObjName) (below count : �
 abbrev pub IsReached : List EarlierObject → StoredPlace → Type 0
 IsReached earlier place = (e : EarlierObject) × Contains earlier e × (e.number ≡ place.number) × (place.place < e.reach)
 
+-- so is each of the volume's own
+abbrev pub AreReached : List (Extent StoredPlace) → List EarlierObject → Type 0
+AreReached rows earlier =
+    (k : ℕ) (place : StoredPlace) → place_at stored_on rows k ≡ Some place → place.level ≡ 0 → IsReached earlier place
+
 -- what an object's reach comes from: a place of the rows right before it
 abbrev pub ReachedBy : List (Extent StoredPlace) → EarlierObject → Type 0
 ReachedBy rows e =
     (e.reach ≡ 0 → ⊥)
-    → (k : ℕ) × (place : StoredPlace) × (place_at stored_on rows k ≡ Some place) × (place.number ≡ e.number)
-    × (place.place + 1 ≡ e.reach)
+    → (k : ℕ) × (place : StoredPlace) × (place_at stored_on rows k ≡ Some place) × (place.level ≡ 0)
+    × (place.number ≡ e.number) × (place.place + 1 ≡ e.reach)
 
--- Each place of rows is in one of the objects, before its reach, which goes no further than the rows do.
+-- Each place of rows in an object of the volume's own is in one of the objects, before its reach, which goes no further than the
+-- rows do.
 pub record ReachAll (rows : List (Extent StoredPlace)) (earlier : List EarlierObject) : Type 0 where
-  pub all : (k : ℕ) (place : StoredPlace) → place_at stored_on rows k ≡ Some place → IsReached earlier place
+  pub all : AreReached rows earlier
   pub by : All (ReachedBy rows) earlier
 
 -- an object but for its reach
@@ -102,10 +108,16 @@ pub record IsReachedBy (row : Extent StoredPlace) (old new : List EarlierObject)
   pub there : HasEarlier old row.place.number
   pub reached : new ≡ map (reached_to row.place.number (row.place.place + row.sectors)) old
 
--- a row names an object of this number that is none of them
+-- it does where its object is the volume's own, and no other changes them
+pub record IsReachedIfOwn (row : Extent StoredPlace) (old new : List EarlierObject) : Type 0 where
+  pub own : row.place.level ≡ 0 → IsReachedBy row old new
+  pub other : (row.place.level ≡ 0 → ⊥) → new ≡ old
+
+-- a row names an object of the volume's own, of this number, that is none of them
 pub record NamesNone (rows : List (Extent StoredPlace)) (earlier : List EarlierObject) (number : ℕ) : Type 0 where
   pub k : ℕ
   pub place : StoredPlace
   pub row : place_at stored_on rows k ≡ Some place
+  pub own : place.level ≡ 0
   pub named : place.number ≡ number
   pub none : HasEarlier earlier number → ⊥

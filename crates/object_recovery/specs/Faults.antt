@@ -25,6 +25,7 @@ abbrev pub is_store_fault : RecoverError → Bool
 is_store_fault errors.NoCheckpoint = false
 is_store_fault (errors.BadObject number reason) = false
 is_store_fault (errors.MissingObject number) = false
+is_store_fault (errors.BaseMissing uuid) = false
 is_store_fault errors.StoreFault = true
 is_store_fault errors.OutOfMemory = false
 
@@ -37,5 +38,6 @@ abbrev pub IsNoAnswer : RecoverError → Type 0
 IsNoAnswer errors.NoCheckpoint = ⊥
 IsNoAnswer (errors.BadObject number reason) = ⊥
 IsNoAnswer (errors.MissingObject number) = ⊥
+IsNoAnswer (errors.BaseMissing uuid) = ⊥
 IsNoAnswer errors.StoreFault = Unit {0}
 IsNoAnswer errors.OutOfMemory = Unit {0}

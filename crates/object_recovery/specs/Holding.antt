@@ -66,6 +66,7 @@ IsWhyNotHeld volume objects number (errors.BadObject other reason) =
     × IsCheckpointRefusedAs bytes (expected_alone volume number) reason
 IsWhyNotHeld volume objects number (errors.MissingObject other) =
     (other ≡ number) × (found objects (object_name volume number) ≡ None)
+IsWhyNotHeld volume objects number (errors.BaseMissing uuid) = ⊥
 IsWhyNotHeld volume objects number errors.StoreFault = ⊥
 IsWhyNotHeld volume objects number errors.OutOfMemory = ⊥
 

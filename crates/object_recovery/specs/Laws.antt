@@ -1,5 +1,5 @@
 -- Contract: what follows from what a recovery leaves.
-use Rattle.std.specs.Prelude.{◌≡◌, ℕ, Option, List, length}
+use Rattle.std.specs.Prelude.{◌≡◌, ℕ, ◌≤◌, Option, Some, List, length}
 use Rattle.lsvd_base.specs.Image.{Image}
 use Rattle.lsvd_objstore.specs.Objects.{Objects}
 use Rattle.object_format.specs.declared.expected.Expected.{Expected}
@@ -12,13 +12,14 @@ use Rattle.object_recovery.specs.Places.{HasPlacesInside}
 use Rattle.object_recovery.specs.Removal.{Removes}
 use Rattle.object_recovery.specs.Recovery.{HasDataUpTo, IsPastOf}
 
--- Where some of the objects past the last one of a stream of a volume without ancestors were removed, or none, the store has the
--- stream as before, up to the same object. So a recovery that was stopped among its removals finds the same again.
+-- Where some of the objects past the last one of a stream were removed, or none, the store has the stream as before, up to the
+-- same object. So a recovery that was stopped among its removals finds the same again. No further level of the volume has its own
+-- uuid.
 abbrev pub RemovalKeepsStream : Type 0
 RemovalKeepsStream =
     (volume : Expected) (uuid_at : ℕ → Option (List ℕ)) (old new : Objects) (stream : Stream) (opening : Image)
     (number : ℕ)
-    → volume.ancestors ≡ 0 → Removes (IsPastOf volume.uuid number) old new
+    → ((level : ℕ) → 1 ≤ level → uuid_at level ≡ Some volume.uuid → ⊥) → Removes (IsPastOf volume.uuid number) old new
     → HasDataUpTo volume uuid_at old stream opening number → HasDataUpTo volume uuid_at new stream opening number
 
 -- A list whose places lie inside objects has an image of the volume's size, also where receipts tell no bytes.

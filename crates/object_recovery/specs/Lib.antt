@@ -12,6 +12,7 @@ pub mod Table
 pub mod Earlier
 pub mod Recovery
 pub mod Beginning
+pub mod Inherited
 pub mod Holding
 pub mod Recovering
 pub mod Laws

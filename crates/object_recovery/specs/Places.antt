@@ -6,9 +6,9 @@ use Rattle.object_uploads.specs.State.{QueueState}
 use Rattle.object_uploads.specs.Queue.{stored_at}
 use Rattle.object_uploads.specs.Collection.{IsInsideObject}
 
--- Each sector that the objects' map has is one of the volume's, and stands in an object of the volume's own that was adopted,
--- inside it.
+-- Each sector that the objects' map has is one of the volume's, and stands in an object that was adopted, or taken up of an
+-- ancestor, inside it.
 abbrev pub HasPlacesInside : (sectors : ℕ) → QueueState → Type 0
 HasPlacesInside sectors queue =
     (k : ℕ) (place : ObjectPlace) → settled_at queue.maps k ≡ Some place
-    → (k < sectors) × (place.level ≡ 0) × IsInsideObject (stored_at queue place) place.sector
+    → (k < sectors) × IsInsideObject (stored_at queue place) place.sector

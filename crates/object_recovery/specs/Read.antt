@@ -44,6 +44,7 @@ IsWhyNotRead receipt expected errors.NoCheckpoint = ⊥
 IsWhyNotRead receipt expected (errors.BadObject number reason) =
     (number ≡ expected.number) × IfSome receipt.told (λ told. IsObjectRefusedAs told receipt.size expected reason)
 IsWhyNotRead receipt expected (errors.MissingObject number) = ⊥
+IsWhyNotRead receipt expected (errors.BaseMissing uuid) = ⊥
 IsWhyNotRead receipt expected errors.StoreFault = Unit {0}
 IsWhyNotRead receipt expected errors.OutOfMemory = Unit {0}
 
@@ -53,6 +54,7 @@ HasNoHeader receipt expected errors.NoCheckpoint = ⊥
 HasNoHeader receipt expected (errors.BadObject number reason) =
     IfSome receipt.told (λ told. (header : Header) → IsObjectHeader told receipt.size expected header → ⊥)
 HasNoHeader receipt expected (errors.MissingObject number) = ⊥
+HasNoHeader receipt expected (errors.BaseMissing uuid) = ⊥
 HasNoHeader receipt expected errors.StoreFault = Unit {0}
 HasNoHeader receipt expected errors.OutOfMemory = Unit {0}
 

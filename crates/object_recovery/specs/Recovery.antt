@@ -51,10 +51,11 @@ pub record HasDataUpTo (volume : Expected) (uuid_at : ℕ → Option (List ℕ))
 
 -- ---- lists
 
--- The list of a volume all of whose objects, up to this number and this end, are acknowledged. No entry is in the batch, nor in
--- the map of the log.
-pub record IsListUpTo (uuid : List ℕ) (geometry : Geometry) (number end : ℕ) (log : ObjLogState) : Type 0 where
+-- The list of a volume with so many ancestors, all of whose objects, up to this number and this end, are acknowledged. No
+-- entry is in the batch, nor in the map of the log.
+pub record IsListUpTo (uuid : List ℕ) (geometry : Geometry) (ancestors number end : ℕ) (log : ObjLogState) : Type 0 where
   pub uuid_is : log.uploads.uuid ≡ uuid
+  pub ancestors_are : log.uploads.ancestors ≡ ancestors
   pub geometry_is : log.batch.geometry ≡ geometry
   pub sectors : log.uploads.sectors ≡ geometry.sectors
   pub first : log.batch.first ≡ end
@@ -93,26 +94,28 @@ IsLastLanded volume objects number =
     (checkpoint : Numbers) → AreCheckpoints volume objects checkpoint → IsFirstMissing checkpoint (landed_in objects volume)
     (number + 1)
 
--- whichever stream the store has, the list is that of it up to the object before the first missing number
+-- whichever stream the store has by the uuids of the volume's levels, the list is that of it up to the object before the first
+-- missing number
 pub record HasRecovered (opening : Image) (stream : Stream) (number : ℕ) (log : ObjLogState) : Type 0 where
   pub number_is : log.uploads.window.last ≡ number
   pub end_is : log.uploads.queue.end ≡ end_at stream number
   pub streams : HasStreamTo opening stream number log
 
-abbrev pub RecoversStreams : (volume : Expected) → Objects → ObjLogState → Type 0
-RecoversStreams volume objects log =
-    (uuid_at : ℕ → Option (List ℕ)) (stream : Stream) (opening : Image) (number : ℕ)
+abbrev pub RecoversStreams : (volume : Expected) → (ℕ → Option (List ℕ)) → Objects → ObjLogState → Type 0
+RecoversStreams volume uuid_at objects log =
+    (stream : Stream) (opening : Image) (number : ℕ)
     → HasDataUpTo volume uuid_at objects stream opening number → HasRecovered opening stream number log
 
 -- the list is that of each stream that the store has, and its last object is that before the first missing number
-pub record IsRecoveredOf (volume : Expected) (objects : Objects) (log : ObjLogState) : Type 0 where
-  pub streams : RecoversStreams volume objects log
+pub record IsRecoveredOf (volume : Expected) (uuid_at : ℕ → Option (List ℕ)) (objects : Objects) (log : ObjLogState) :
+    Type 0 where
+  pub streams : RecoversStreams volume uuid_at objects log
   pub last : IsLastLanded volume objects log.uploads.window.last
 
 -- no stream that the store has ends before the object of this number
-abbrev pub IsNoLonger : (volume : Expected) → Objects → (last : ℕ) → Type 0
-IsNoLonger volume objects last =
-    (uuid_at : ℕ → Option (List ℕ)) (stream : Stream) (opening : Image) (number : ℕ)
+abbrev pub IsNoLonger : (volume : Expected) → (ℕ → Option (List ℕ)) → Objects → (last : ℕ) → Type 0
+IsNoLonger volume uuid_at objects last =
+    (stream : Stream) (opening : Image) (number : ℕ)
     → HasDataUpTo volume uuid_at objects stream opening number → last ≤ number
 
 -- an object of a volume past a number
@@ -147,38 +150,41 @@ IsBadThere volume objects number reason =
     (base : ℕ) × (last : ℕ) × IsRun volume objects base last × IsGreatestBad volume objects last base number reason
 
 -- all are good, and the newest checkpoint maps a sector to this one, which does not have it there
-pub record IsMissingThere (volume : Expected) (objects : Objects) (number : ℕ) : Type 0 where
+pub record IsMissingThere (volume : Expected) (uuid_at : ℕ → Option (List ℕ)) (objects : Objects) (number : ℕ) : Type 0 where
   pub base : ℕ
   pub end : ℕ
   pub owned : Owners
   pub checkpoint : IsCheckpointOf volume objects base end owned
   pub newest : IsNewest volume objects base
   pub good : AreAllGood volume objects base
-  pub missing : IsMissing volume objects checkpoint.rows number
+  pub missing : IsMissing uuid_at objects checkpoint.rows number
 
 -- why the objects of a store are refused
-abbrev pub IsWhyObjectsRefused : (volume : Expected) → Objects → RecoverError → Type 0
-IsWhyObjectsRefused volume objects errors.NoCheckpoint = (number : ℕ) → IsNoCheckpoint volume objects number
-IsWhyObjectsRefused volume objects (errors.BadObject number reason) = IsBadThere volume objects number reason
-IsWhyObjectsRefused volume objects (errors.MissingObject number) = IsMissingThere volume objects number
-IsWhyObjectsRefused volume objects errors.StoreFault = Unit {0}
-IsWhyObjectsRefused volume objects errors.OutOfMemory = Unit {0}
+abbrev pub IsWhyObjectsRefused : (volume : Expected) → (ℕ → Option (List ℕ)) → Objects → RecoverError → Type 0
+IsWhyObjectsRefused volume uuid_at objects errors.NoCheckpoint = (number : ℕ) → IsNoCheckpoint volume objects number
+IsWhyObjectsRefused volume uuid_at objects (errors.BadObject number reason) = IsBadThere volume objects number reason
+IsWhyObjectsRefused volume uuid_at objects (errors.MissingObject number) = IsMissingThere volume uuid_at objects number
+IsWhyObjectsRefused volume uuid_at objects (errors.BaseMissing uuid) = ⊥
+IsWhyObjectsRefused volume uuid_at objects errors.StoreFault = Unit {0}
+IsWhyObjectsRefused volume uuid_at objects errors.OutOfMemory = Unit {0}
 
 -- the error refuses what the store has
 abbrev pub IsRefusal : RecoverError → Type 0
 IsRefusal errors.NoCheckpoint = Unit {0}
 IsRefusal (errors.BadObject number reason) = Unit {0}
 IsRefusal (errors.MissingObject number) = Unit {0}
+IsRefusal (errors.BaseMissing uuid) = Unit {0}
 IsRefusal errors.StoreFault = ⊥
 IsRefusal errors.OutOfMemory = ⊥
 
 -- no stream that the store has is refused
-abbrev pub RefusesNoStream : (volume : Expected) → Objects → RecoverError → Type 0
-RefusesNoStream volume objects error =
-    (uuid_at : ℕ → Option (List ℕ)) (stream : Stream) (opening : Image) (number : ℕ)
+abbrev pub RefusesNoStream : (volume : Expected) → (ℕ → Option (List ℕ)) → Objects → RecoverError → Type 0
+RefusesNoStream volume uuid_at objects error =
+    (stream : Stream) (opening : Image) (number : ℕ)
     → HasDataUpTo volume uuid_at objects stream opening number → IsRefusal error → ⊥
 
 -- an error with its reason, which refuses no stream that the store has
-pub record IsRecoveryRefused (volume : Expected) (objects : Objects) (error : RecoverError) : Type 0 where
-  pub why : IsWhyObjectsRefused volume objects error
-  pub no_stream : RefusesNoStream volume objects error
+pub record IsRecoveryRefused (volume : Expected) (uuid_at : ℕ → Option (List ℕ)) (objects : Objects) (error : RecoverError) :
+    Type 0 where
+  pub why : IsWhyObjectsRefused volume uuid_at objects error
+  pub no_stream : RefusesNoStream volume uuid_at objects error

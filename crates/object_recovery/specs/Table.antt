@@ -1,7 +1,8 @@
 -- Contract: what the table of a recovered list knows of the objects of a store.
-use Rattle.std.specs.Prelude.{◌≡◌, ℕ, ◌<◌, ◌≤◌, ◌↔◌, false, nat_eq, IsTrue, is_some, option_map, Some, None, IfSome, List}
+use Rattle.std.specs.Prelude.{◌≡◌, ℕ, ◌<◌, ◌≤◌, ◌↔◌, Option, false, nat_eq, IsTrue, is_some, option_map, Some, None, IfSome, List}
 use Rattle.std.specs.Prelude.{length}
 use Rattle.std.specs.List.{All}
+use Rattle.lsvd_names.specs.Names.{numbered_name}
 use Rattle.lsvd_objstore.specs.Objects.{Objects, found}
 use Rattle.extent_map.specs.declared.extent.Extent.{Extent}
 use Rattle.extent_map.specs.Extents.{place_at}
@@ -23,6 +24,7 @@ use Rattle.volume_maps.specs.declared.place.ObjectPlace.{ObjectPlace}
 use Rattle.volume_maps.specs.Maps.{settled_at}
 use Rattle.object_uploads.specs.State.{QueueState}
 use Rattle.object_uploads.specs.Checkpoint.{mapped_place}
+use Rattle.object_recovery.specs.Missing.{IsThere, IsBaseMissing}
 
 -- The table of a list that begins with a checkpoint of this number: that is its newest, no removal is out, nothing is pinned, no
 -- plan of a copy takes sectors, and as long as no object came after the checkpoint, it passed just those unmapped that have no
@@ -49,16 +51,21 @@ pub record HasPayloadThere (volume : Expected) (objects : Objects) (number paylo
   pub no_checkpoint : header.kind ≡ kinds.Checkpoint → ⊥
   pub payload_is : header.payload ≡ payload
 
--- so is each object that a list's map has a sector in, with the payload that the table says
+-- so is each object of the volume's own that a list's map has a sector in, with the payload that the table says
 abbrev pub ArePayloadsThere : (volume : Expected) → Objects → QueueState → Type 0
 ArePayloadsThere volume objects queue =
-    (k : ℕ) (place : ObjectPlace) → settled_at queue.maps k ≡ Some place
+    (k : ℕ) (place : ObjectPlace) → settled_at queue.maps k ≡ Some place → place.level ≡ 0
     → IfSome (row_of place.number queue.maps.objects.rows) (λ row.
     HasPayloadThere volume objects place.number row.payload)
 
+-- a place is in an object up to this number, or in one of an ancestor
+abbrev pub IsUpTo : (number : ℕ) → ObjectPlace → Type 0
+IsUpTo number place = place.level ≡ 0 → place.number ≤ number
+
 -- The table has just the objects that the store has up to the frontier, and says of each whether the newest checkpoint of the
 -- store, which has this number, came after it and does not map it. The list's map has the sectors of objects up to that
--- checkpoint where its rows say. Of each object that the map has a sector in, the table says the payload.
+-- checkpoint, and of ancestors' objects, where its rows say. Of each object of the volume's own that the map has a sector in, the
+-- table says the payload.
 pub record KnowsObjects (volume : Expected) (objects : Objects) (base : ℕ) (queue : QueueState) : Type 0 where
   pub known : (number : ℕ) → 1 ≤ number → number ≤ queue.frontier
       → is_some (row_of number queue.maps.objects.rows) ≡ landed_in objects volume number
@@ -66,7 +73,7 @@ pub record KnowsObjects (volume : Expected) (objects : Objects) (base : ℕ) (qu
       → IfSome (row_of number queue.maps.objects.rows) (λ row.
       IsTrue row.is_unmapped ↔ ((number < base) × ((k : ℕ) → is_own number (owned k) ≡ false)))
   pub places : (end : ℕ) (owned : Owners) → (checkpoint : IsCheckpointOf volume objects base end owned)
-      → (k : ℕ) (place : ObjectPlace) → settled_at queue.maps k ≡ Some place → place.number ≤ base
+      → (k : ℕ) (place : ObjectPlace) → settled_at queue.maps k ≡ Some place → IsUpTo base place
       → option_map mapped_place (place_at stored_on checkpoint.rows k) ≡ Some place
   pub payloads : ArePayloadsThere volume objects queue
 
@@ -76,16 +83,33 @@ pub record KnowsHolds (volume : Expected) (objects : Objects) (queue : QueueStat
   pub says : (number : ℕ) → IfSome (row_of number queue.maps.objects.rows) (λ row.
       IsTrue row.is_held ↔ IsKept volume objects number)
 
--- The object of a place is in the store: its header is that of a data object or a copy, whose payload has such a place.
-pub record IsNamedThere (volume : Expected) (objects : Objects) (place : StoredPlace) : Type 0 where
+-- what is expected of an object of the volume with this uuid, which is one of a volume's levels
+abbrev pub expected_in : Expected → (uuid : List ℕ) → (number : ℕ) → Expected
+expected_in volume uuid number = record volume { uuid = uuid; number = number; end_before = None }
+
+-- The object of a place, by the uuid of its level, is in the store: its header is that of a data object or a copy, whose payload
+-- has such a place.
+pub record IsNamedThere (volume : Expected) (uuid_at : ℕ → Option (List ℕ)) (objects : Objects) (place : StoredPlace) :
+    Type 0 where
+  pub uuid : List ℕ
+  pub of : uuid_at place.level ≡ Some uuid
   pub bytes : List ℕ
-  pub present : found objects (object_name volume place.number) ≡ Some bytes
+  pub present : found objects (numbered_name uuid place.number) ≡ Some bytes
   pub header : Header
-  pub is_header : IsObjectHeader bytes (length bytes) (expected_alone volume place.number) header
+  pub is_header : IsObjectHeader bytes (length bytes) (expected_in volume uuid place.number) header
   pub no_checkpoint : header.kind ≡ kinds.Checkpoint → ⊥
   pub inside : place.place < header.payload
 
 -- each place of rows is in such a one
-abbrev pub AreNamedThere : (volume : Expected) → Objects → List (Extent StoredPlace) → Type 0
-AreNamedThere volume objects rows = (k : ℕ) (place : StoredPlace) → place_at stored_on rows k ≡ Some place
-    → IsNamedThere volume objects place
+abbrev pub AreNamedThere : (volume : Expected) → (ℕ → Option (List ℕ)) → Objects → List (Extent StoredPlace) → Type 0
+AreNamedThere volume uuid_at objects rows = (k : ℕ) (place : StoredPlace) → place_at stored_on rows k ≡ Some place
+    → IsNamedThere volume uuid_at objects place
+
+-- Each place of rows is in such a one, but for those in ancestors' objects that are absent: the first of these is of the ancestor
+-- with this uuid, if there is any.
+pub record FindsNamed (volume : Expected) (uuid_at : ℕ → Option (List ℕ)) (objects : Objects) (rows : List (Extent StoredPlace))
+    (absent : Option (List ℕ)) : Type 0 where
+  pub named : (k : ℕ) (place : StoredPlace) → place_at stored_on rows k ≡ Some place
+      → (1 ≤ place.level → IsThere objects uuid_at place) → IsNamedThere volume uuid_at objects place
+  pub whole : absent ≡ None → AreNamedThere volume uuid_at objects rows
+  pub missing : IfSome absent (IsBaseMissing uuid_at objects rows)

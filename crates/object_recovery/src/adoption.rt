@@ -52,20 +52,21 @@ struct WholeObject {
 
 /// Adopts the objects after the last of the list, up to the first missing number, or up to the first object
 /// that is not adopted: how that one was judged is answered. No list takes the object of the greatest number
-/// of all. The list has all of its objects acknowledged, and its places lie inside these (conditions).
+/// of all. The list has all of its objects acknowledged (a condition). Where its places lie inside objects,
+/// they do so afterwards.
 pub(crate) fn adopt_all<S: Store>(
     alloc: Global,
     store: &mut S,
     log: &mut ObjLog<S::Receipt>,
 ) -> Result<Option<Reached>, RecoverError>
-    requires list { IsListUpTo log.old.uploads.uuid log.old.batch.geometry log.old.uploads.window.last
-        log.old.uploads.queue.end log.old }
+    requires list { IsListUpTo log.old.uploads.uuid log.old.batch.geometry log.old.uploads.ancestors
+        log.old.uploads.window.last log.old.uploads.queue.end log.old }
     requires limits { IsTrue (is_within_limits log.old.batch.geometry) }
-    requires places { HasPlacesInside log.old.batch.geometry.sectors log.old.uploads.queue }
     ensures list { OnOk result
-        (IsListUpTo log.old.uploads.uuid log.old.batch.geometry log.new.uploads.window.last
-        log.new.uploads.queue.end log.new) }
-    ensures places { OnOk result (HasPlacesInside log.old.batch.geometry.sectors log.new.uploads.queue) }
+        (IsListUpTo log.old.uploads.uuid log.old.batch.geometry log.old.uploads.ancestors
+        log.new.uploads.window.last log.new.uploads.queue.end log.new) }
+    ensures places { OnOk result (HasPlacesInside log.old.batch.geometry.sectors log.old.uploads.queue
+        → HasPlacesInside log.old.batch.geometry.sectors log.new.uploads.queue) }
     ensures from { OnOk result (log.old.uploads.window.last ≤ log.new.uploads.window.last) }
     ensures order { OnOk result (IsUploads log.new.uploads) }
     ensures streams { TellsBytes S.Receipt.state → OnOk result (IfSome (S.state store.old).objects (λ objects.
@@ -97,8 +98,8 @@ fn adopt_next<S: Store>(
     store: &mut S,
     log: &mut ObjLog<S::Receipt>,
 ) -> Result<Next, RecoverError>
-    requires list { IsListUpTo log.old.uploads.uuid log.old.batch.geometry log.old.uploads.window.last
-        log.old.uploads.queue.end log.old }
+    requires list { IsListUpTo log.old.uploads.uuid log.old.batch.geometry log.old.uploads.ancestors
+        log.old.uploads.window.last log.old.uploads.queue.end log.old }
     requires limits { IsTrue (is_within_limits log.old.batch.geometry) }
     ensures next { IfOk result (ComesNext (TellsBytes S.Receipt.state) (S.state store.old).objects
         log.old log.new) }
@@ -187,7 +188,7 @@ fn expected_next<R: Receipt>(log: &ObjLog<R>) -> Expected
         uuid: log.uploads().uuid().into_bytes(),
         number: log.uploads().last() + 1,
         sectors: batch.geometry().sectors,
-        ancestors: 0,
+        ancestors: log.uploads().ancestors(),
         end_before: Some(batch.first_seq()),
     }
 }

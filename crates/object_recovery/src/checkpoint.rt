@@ -53,25 +53,26 @@ impl<R: Receipt> Model for StoredCheckpoint<R> {
 
 /// The newest checkpoint among names, which are those of a volume's objects, in ascending order: the first
 /// bytes of objects are read from the last name on, and all of one whose header is that of a checkpoint,
-/// until one is found. `NoCheckpoint` comes where none is.
+/// until one is found. The volume has this many ancestors. `NoCheckpoint` comes where none is.
 pub fn newest_checkpoint<S: Store>(
     alloc: Global,
     store: &mut S,
     geometry: &Geometry,
+    ancestors: u32,
     names: &[ObjName],
 ) -> Result<StoredCheckpoint<S::Receipt>, RecoverError>
     requires { AreNames names.now }
     ensures read { IfOk result (λ newest. (uuid : List ℕ) → AreNamesOf uuid names.now
-        → IsReadCheckpoint (expected_of uuid geometry.now) newest) }
+        → IsReadCheckpoint (expected_of uuid geometry.now ancestors) newest) }
     ensures newest { TellsBytes S.Receipt.state
         → IfOk result (λ newest. IfSome (S.state store.old).objects (λ objects.
         (uuid : List ℕ) → IsUuid uuid → Lists uuid objects names.now
-        → IsStoredCheckpoint (expected_of uuid geometry.now) objects newest
-        × IsNewest (expected_of uuid geometry.now) objects newest.number)) }
+        → IsStoredCheckpoint (expected_of uuid geometry.now ancestors) objects newest
+        × IsNewest (expected_of uuid geometry.now ancestors) objects newest.number)) }
     ensures none { TellsBytes S.Receipt.state → IsErrOf result RecoverError.NoCheckpoint
         → IfSome (S.state store.old).objects (λ objects.
         (uuid : List ℕ) (number : ℕ) → IsUuid uuid → Lists uuid objects names.now
-        → IsNoCheckpoint (expected_of uuid geometry.now) objects number) }
+        → IsNoCheckpoint (expected_of uuid geometry.now ancestors) objects number) }
     ensures answer { IfErr result (λ error. (error ≡ RecoverError.NoCheckpoint) ⊎ IsNoAnswer error) }
     ensures unchanged { OnlyCounts (S.state store.old) (S.state store.new) }
     ensures faults { Counts (ends_by_fault result) (S.state store.old).faults (S.state store.new).faults }
@@ -79,7 +80,7 @@ pub fn newest_checkpoint<S: Store>(
     let mut left = names.len();
     while 0 < left {
         left -= 1;
-        if let Some(newest) = checkpoint_named(alloc, store, geometry, &names[left])? {
+        if let Some(newest) = checkpoint_named(alloc, store, geometry, ancestors, &names[left])? {
             return Ok(newest);
         }
     }
@@ -92,14 +93,15 @@ fn checkpoint_named<S: Store>(
     alloc: Global,
     store: &mut S,
     geometry: &Geometry,
+    ancestors: u32,
     name: &ObjName,
 ) -> Result<Option<StoredCheckpoint<S::Receipt>>, RecoverError>
     requires { IsName name.now }
     ensures read { IfOk result (λ found. IfSome found (IsReadCheckpoint
-        (expected_of name.now.uuid geometry.now))) }
+        (expected_of name.now.uuid geometry.now ancestors))) }
     ensures named { TellsBytes S.Receipt.state
         → IfOk result (λ found. IfSome (S.state store.old).objects (λ objects.
-        IsCheckpointNamed geometry.now objects name.now found)) }
+        IsCheckpointNamed geometry.now ancestors objects name.now found)) }
     ensures answer { IfErr result IsNoAnswer }
     ensures unchanged { OnlyCounts (S.state store.old) (S.state store.new) }
     ensures faults { Counts (ends_by_fault result) (S.state store.old).faults (S.state store.new).faults }
@@ -110,7 +112,7 @@ fn checkpoint_named<S: Store>(
     let Some(receipt) = store.find(alloc, name)? else {
         return Ok(None);
     };
-    let expected = expected_alone(name.uuid, geometry, name.number);
+    let expected = expected_alone(name.uuid, geometry, ancestors, name.number);
     let Some(bytes) = bytes_of_checkpoint(alloc, store, &receipt, &expected)? else {
         return Ok(None);
     };
@@ -171,15 +173,15 @@ fn end_of_rows(bytes: &[u8], expected: &Expected) -> Option<u64>
     }
 }
 
-/// What is expected of an object of a volume without ancestors, where the end before it is not known.
-pub fn expected_alone(uuid: Uuid, geometry: &Geometry, number: u64) -> Expected
-    ensures { result ≡ expected_alone (expected_of uuid geometry.now) number }
+/// What is expected of an object of a volume with this many ancestors, where the end before it is not known.
+pub fn expected_alone(uuid: Uuid, geometry: &Geometry, ancestors: u32, number: u64) -> Expected
+    ensures { result ≡ expected_alone (expected_of uuid geometry.now ancestors) number }
 {
     Expected {
         uuid: uuid.into_bytes(),
         number,
         sectors: geometry.sectors,
-        ancestors: 0,
+        ancestors,
         end_before: None,
     }
 }

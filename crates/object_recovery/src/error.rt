@@ -8,6 +8,7 @@ use lsvd_objstore::StoreError;
 use object_format::BadObject;
 use std::alloc::AllocError;
 use thiserror::Error;
+use uuid::Uuid;
 
 /// Why the objects of a volume were not recovered.
 #[derive(Clone, Copy, Debug, PartialEq, Eq, Error)]
@@ -24,9 +25,14 @@ pub enum RecoverError {
     BadObject { number: u64, reason: BadObject },
     /// No object is bad, and the newest checkpoint maps a sector to the one of this number, which does not
     /// have it there: it is absent, is no data object or copy of the grammar, or its payload has no such
-    /// place. Or a hold names the checkpoint of this number, which is absent.
+    /// place. Or it is an ancestor's, and is there without having that. Or a hold names the checkpoint of
+    /// this number, which is absent.
     #[error("object {number} is absent, or does not have what the newest checkpoint maps to it")]
     MissingObject { number: u64 },
+    /// Nothing else is refused, and the newest checkpoint maps a sector to an object of the ancestor with
+    /// this uuid that is absent: the first such, by level and then by number.
+    #[error("an object of the ancestor {uuid} is absent")]
+    BaseMissing { uuid: Uuid },
     /// A call of the store failed, and was counted by it.
     #[error("the store failed")]
     StoreFault,

@@ -17,6 +17,7 @@ mod beginning;
 mod checkpoint;
 mod error;
 mod holding;
+mod inherited;
 mod judging;
 mod laws;
 mod naming;

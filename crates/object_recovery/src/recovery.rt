@@ -1,4 +1,4 @@
-ghost use Rattle.std.specs.Prelude.{◌≡◌, None, IsTrue, IfOk, IfErr, IfSome, OnOk};
+ghost use Rattle.std.specs.Prelude.{◌≡◌, None, IsTrue, IfOk, IfErr, IfSome, OnOk, length};
 ghost use Rattle.lsvd_base.specs.Limits.{is_within_limits};
 ghost use Rattle.lsvd_objstore.specs.Objects.{AreNamesOf, Lists};
 ghost use Rattle.lsvd_objstore.specs.Store.{StoreState, OnlyCounts};
@@ -12,7 +12,6 @@ ghost use Rattle.object_recovery.specs.Adoption.{reached_by, ReachesGap, JudgesR
 ghost use Rattle.object_recovery.specs.Adoption.{RefusesBeside, GoesOnOf, RecoverListOf};
 ghost use Rattle.object_recovery.specs.Checkpoints.{expected_of, IsReadCheckpoint};
 ghost use Rattle.object_recovery.specs.Holding.{HoldsOf};
-ghost use Rattle.object_recovery.specs.Places.{HasPlacesInside};
 ghost use Rattle.object_recovery.specs.Recovery.{IsListUpTo, IsRefusal};
 ghost use Rattle.object_recovery.specs.Recovering.{RecoverOf};
 
@@ -23,20 +22,22 @@ use crate::error::RecoverError;
 use crate::holding::mark_held;
 use crate::judging::{Reached, judge_past, judge_to_gap};
 use crate::recovered::Recovered;
+use clone_chain::Chain;
 use lsvd_base::Geometry;
 use lsvd_names::{ObjName, a_uuid_has_sixteen_bytes};
 use lsvd_objstore::{Names, Receipt, Store};
 use obj_log::ObjLog;
 use object_format::Expected;
 use std::alloc::Global;
+use std::marker::Model;
 use uuid::Uuid;
 
-/// Recovers the list of a volume with this uuid and these sizes, which are within the limits (a condition),
-/// from the objects that the store has of it: from the newest checkpoint on, each object up to the first
-/// missing number is counted as acknowledged. What a hold keeps is marked in the list. The store is only
-/// read: objects past that number are there until `Recovered::remove_past` removes them. No list takes an
-/// object of the number 2^64 - 1: where one goes on there, the list ends before it, and only then not before
-/// the first missing number.
+/// Recovers the list of a volume with this uuid, these sizes, which are within the limits (a condition), and
+/// this chain of ancestors, from the objects that the store has of it: from the newest checkpoint on, each
+/// object up to the first missing number is counted as acknowledged. What a hold keeps is marked in the list.
+/// The store is only read: objects past that number are there until `Recovered::remove_past` removes them. No
+/// list takes an object of the number 2^64 - 1: where one goes on there, the list ends before it, and only
+/// then not before the first missing number.
 ///
 /// The store is not listed: these are the names of all objects of the volume that it has (conditions), as
 /// its own listing gives them.
@@ -50,7 +51,10 @@ use uuid::Uuid;
 ///   Or a hold names the object of this number, and it is no checkpoint. Holds are judged last, by their
 ///   ascending numbers.
 /// - `MissingObject`: none is bad, and the newest checkpoint maps a sector to the object of this number,
-///   which does not have it there; or a hold names the checkpoint of this number, which is absent.
+///   which does not have it there; or a hold names the checkpoint of this number, which is absent. Of an
+///   ancestor's object it comes only where that is there.
+/// - `BaseMissing`: nothing else is refused, and the newest checkpoint maps a sector to an object of the
+///   ancestor with this uuid that is absent: the first such, by level and then by number.
 /// - `StoreFault`: a call of the store failed, and was counted by it.
 /// - `OutOfMemory`: memory ran out.
 pub fn recover<S: Store>(
@@ -58,24 +62,46 @@ pub fn recover<S: Store>(
     store: &mut S,
     uuid: Uuid,
     geometry: Geometry,
+    chain: &Chain,
     names: Names,
 ) -> Result<Recovered<S::Receipt>, RecoverError>
     requires limits { IsTrue (is_within_limits geometry) }
     requires names { AreNamesOf uuid names }
     requires listed { IfSome (S.state store.old).objects (λ objects. Lists uuid objects names) }
-    ensures { RecoverOf (TellsBytes S.Receipt.state) uuid geometry (S.state store.old) (S.state store.new)
-        result }
+    ensures { RecoverOf (TellsBytes S.Receipt.state) uuid geometry chain.now (S.state store.old)
+        (S.state store.new) result }
 {
     a_uuid_has_sixteen_bytes(uuid);
-    let base = newest_checkpoint(alloc, store, &geometry, names.as_slice())?;
+    let base = newest_checkpoint(alloc, store, &geometry, chain.count(), names.as_slice())?;
     let checkpoint = base.number;
-    let log = recover_list(alloc, store, uuid, geometry, base, names.as_slice())?;
-    let log = with_held(alloc, store, log, names.as_slice())?;
-    Ok(Recovered {
-        log,
-        checkpoint,
-        names,
-    })
+    let listed = recover_list(alloc, store, uuid, geometry, chain, base, names.as_slice())?;
+    let log = with_held(alloc, store, listed.log, names.as_slice())?;
+    match listed.absent {
+        Some(uuid) => {
+            drop(log);
+            Err(RecoverError::BaseMissing { uuid })
+        }
+        None => Ok(Recovered {
+            log,
+            checkpoint,
+            names,
+        }),
+    }
+}
+
+// A list that was recovered, and the ancestor that lacks the first of those objects that ancestors lack.
+#[derive(Drop)]
+struct Listed<R: Receipt> {
+    log: ObjLog<R>,
+    absent: Option<Uuid>,
+}
+
+impl<R: Receipt> Model for Listed<R> {
+    ghost use Rattle.object_recovery.specs.Adoption.{ListedState};
+
+    ghost Value = { ListedState };
+
+    ghost view = { λ it. record { log = it.log; absent = it.absent } };
 }
 
 // Recovers the list from this checkpoint on, where it is the newest and these are the names of the objects
@@ -85,24 +111,28 @@ fn recover_list<S: Store>(
     store: &mut S,
     uuid: Uuid,
     geometry: Geometry,
+    chain: &Chain,
     base: StoredCheckpoint<S::Receipt>,
     names: &[ObjName],
-) -> Result<ObjLog<S::Receipt>, RecoverError>
+) -> Result<Listed<S::Receipt>, RecoverError>
     requires limits { IsTrue (is_within_limits geometry) }
-    requires read { IsReadCheckpoint (expected_of uuid geometry) base }
+    requires read { IsReadCheckpoint (expected_of uuid geometry (length chain.now)) base }
     requires names { AreNamesOf uuid names.now }
-    ensures { RecoverListOf (TellsBytes S.Receipt.state) uuid geometry base names.now (S.state store.old)
-        (S.state store.new) result }
+    ensures { RecoverListOf (TellsBytes S.Receipt.state) uuid geometry chain.now base names.now
+        (S.state store.old) (S.state store.new) result }
 {
     let reached = Reached {
         number: base.number,
         end: Some(base.end),
         refused: None,
     };
-    match begin_list(alloc, store, uuid, geometry, base, names)? {
-        Beginning::List(log) => go_on(alloc, store, log, names),
+    match begin_list(alloc, store, uuid, geometry, chain, base, names)? {
+        Beginning::List { log, absent } => {
+            let log = go_on(alloc, store, log, names)?;
+            Ok(Listed { log, absent })
+        }
         Beginning::Missing { number } => {
-            let volume = expected_alone(uuid, &geometry, 0);
+            let volume = expected_alone(uuid, &geometry, chain.count(), 0);
             Err(refuse_beside(alloc, store, &volume, reached, names, number)?)
         }
     }
@@ -142,11 +172,10 @@ fn go_on<S: Store>(
     log: ObjLog<S::Receipt>,
     names: &[ObjName],
 ) -> Result<ObjLog<S::Receipt>, RecoverError>
-    requires list { IsListUpTo log.uploads.uuid log.batch.geometry log.uploads.window.last
-        log.uploads.queue.end log }
+    requires list { IsListUpTo log.uploads.uuid log.batch.geometry log.uploads.ancestors
+        log.uploads.window.last log.uploads.queue.end log }
     requires limits { IsTrue (is_within_limits log.batch.geometry) }
     requires order { IsUploads log.uploads }
-    requires places { HasPlacesInside log.batch.geometry.sectors log.uploads.queue }
     ensures { GoesOnOf (TellsBytes S.Receipt.state) log names.now (S.state store.old) (S.state store.new)
         result }
 {
@@ -242,7 +271,7 @@ pub(crate) fn expected_of_list<R: Receipt>(log: &ObjLog<R>) -> Expected
         uuid: log.uploads().uuid().into_bytes(),
         number: 0,
         sectors: log.batch().geometry().sectors,
-        ancestors: 0,
+        ancestors: log.uploads().ancestors(),
         end_before: None,
     }
 }

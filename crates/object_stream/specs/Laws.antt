@@ -46,6 +46,7 @@ from_object number stream = record {
   number = number;
   end = end_at stream number;
   opening = owners stream number;
+  inherited = stream.inherited;
   entries = drop (end_at stream number - stream.end) stream.entries;
   objects = drop (number - stream.number) stream.objects;
 }

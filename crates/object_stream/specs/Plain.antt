@@ -4,12 +4,14 @@ use Rattle.object_stream.specs.declared.plain_stream.PlainStream.{PlainStream}
 use Rattle.object_stream.specs.Stream.{Stream}
 use Rattle.object_stream.specs.Landed.{Numbers}
 
--- the stream that a plain stream lists: a sector past its opening list has no owner there
+-- The stream that a plain stream lists: a sector past its opening list has no owner there. It tells owners alone, and no places
+-- that its ancestors' objects have.
 abbrev pub stream_of : PlainStream → Stream
 stream_of plain = record {
   number = plain.number;
   end = plain.end;
   opening = λ k. slice_index_or plain.opening.items k None;
+  inherited = λ k. 0;
   entries = plain.entries.items;
   objects = plain.objects.items;
 }

@@ -25,6 +25,8 @@ pub record Stream : Type 0 where
   pub number : ℕ
   pub end : ℕ
   pub opening : Owners
+  -- where the object of an ancestor that owns a sector at the beginning has it in its payload
+  pub inherited : ℕ → ℕ
   -- the entries of the history from that end on
   pub entries : List Entry
   -- the objects after that one

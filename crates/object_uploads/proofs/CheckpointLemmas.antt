@@ -1,9 +1,11 @@
 -- The rows of a map as those of a checkpoint.
-use Rattle.std.proofs.Common.{◌≡◌, ℕ, ◌+◌, ◌-◌, ◌^◌, ◌<◌, ◌≤◌, cond, Bool, true, false, Option, Some, None, List, [], ◌∷◌}
+use Rattle.std.proofs.Common.{◌≡◌, ℕ, ◌+◌, ◌-◌, ◌<◌, ◌≤◌, cond, Bool, true, false, Option, Some, None, List, [], ◌∷◌}
 use Rattle.std.proofs.Common.{◌++◌}
 use Rattle.std.proofs.Common.{length, length-append, refl, sym, ◌∙◌, ap, subst, arith}
 use Rattle.std.specs.Prelude.{IsTrue, IfSome, IfOk, Result, Ok, Err, map, option_map}
+use Rattle.std.specs.List.{All}
 use Rattle.std.proofs.lemmas.List.{append-nil, length-map}
+use Rattle.std.proofs.lemmas.List.Elements.{All-head, All-tail}
 use Rattle.std.proofs.lemmas.Bool.Decides.{nat_tests}
 use Rattle.extent_map.specs.declared.extent.Extent.{Extent}
 use Rattle.extent_map.specs.Extents.{is_within, place_at, ComesBeforeFirst, IsShortest}
@@ -18,7 +20,7 @@ use Rattle.volume_maps.specs.declared.place.ObjectPlace.{ObjectPlace}
 use Rattle.volume_maps.specs.Places.{object_on}
 use Rattle.object_uploads.specs.Checkpoint.{mapped_place, HoldsPlaces}
 use Rattle.object_uploads.specs.Order.{PlaceFits, PlacesFitIn}
-use Rattle.object_uploads.specs.Invariant.{stored_row}
+use Rattle.object_uploads.specs.Invariant.{stored_row, IsPlaceWide}
 
 -- ---- the places
 
@@ -53,38 +55,39 @@ shortest (row ∷ rows) is = (is.0, before row rows is.1, shortest rows is.2)
 -- ---- each row
 
 -- what holds of a row whose places fit the volume
-record RowFitsIn (sectors last : ℕ) (row : Extent ObjectPlace) : Type 0 where
+record RowFitsIn (sectors ancestors last : ℕ) (row : Extent ObjectPlace) : Type 0 where
   some : 0 < row.sectors
   end : row.lba + row.sectors ≤ sectors
-  own : row.place.level ≡ 0
-  number : row.place.number ≤ last
+  level : row.place.level ≤ ancestors
+  number : row.place.level ≡ 0 → row.place.number ≤ last
   payload : row.place.sector + row.sectors ≤ 131071
 
-module _ (sectors last : ℕ) where
+module _ (sectors ancestors last : ℕ) where
   first_fits : (row : Extent ObjectPlace) (rows : List (Extent ObjectPlace)) → IsShortest object_on (row ∷ rows)
-      → PlacesFitIn sectors last (place_at object_on (row ∷ rows)) → RowFitsIn sectors last row
+      → PlacesFitIn sectors ancestors last (place_at object_on (row ∷ rows)) → RowFitsIn sectors ancestors last row
   first_fits row rows is fit =
       let k : ℕ = row.lba + (row.sectors - 1) in
       let some : 0 < row.sectors = is.0 in
       let there = at_inside object_on row rows k (omega arith) (omega arith) in
-      let fits : PlaceFits sectors last k (object_on (k - row.lba) row.place) =
-      subst (λ place. IfSome place (PlaceFits sectors last k)) there (fit k) in
+      let fits : PlaceFits sectors ancestors last k (object_on (k - row.lba) row.place) =
+      subst (λ place. IfSome place (PlaceFits sectors ancestors last k)) there (fit k) in
       record {
         some = some;
         end = omega (arith, some, fits.inside);
-        own = fits.own;
+        level = fits.level;
         number = fits.number;
         payload = omega (arith, some, fits.payload);
       }
 
   rest_by : (test : Bool) (k : ℕ) (first : ObjectPlace) (rest : Option ObjectPlace)
-      → IfSome (cond test (Some first) rest) (PlaceFits sectors last k) → (test ≡ true → rest ≡ None)
-      → IfSome rest (PlaceFits sectors last k)
+      → IfSome (cond test (Some first) rest) (PlaceFits sectors ancestors last k) → (test ≡ true → rest ≡ None)
+      → IfSome rest (PlaceFits sectors ancestors last k)
   rest_by true k first rest fit none = rw (none refl) tt
   rest_by false k first rest fit none = fit
 
   rest_fit : (row : Extent ObjectPlace) (rows : List (Extent ObjectPlace)) → IsShortest object_on (row ∷ rows)
-      → PlacesFitIn sectors last (place_at object_on (row ∷ rows)) → PlacesFitIn sectors last (place_at object_on rows)
+      → PlacesFitIn sectors ancestors last (place_at object_on (row ∷ rows))
+      → PlacesFitIn sectors ancestors last (place_at object_on rows)
   rest_fit row rows is fit k =
       rest_by (is_within row.lba row.sectors k) k (object_on (k - row.lba) row.place) (place_at object_on rows k) (fit k)
       (λ within. let low : k < row.lba + row.sectors = grind (arith, nat_tests) in
@@ -92,7 +95,7 @@ module _ (sectors last : ℕ) where
 
   -- rows with sectors of their own are no more than there are sectors
   few_from : (low : ℕ) (rows : List (Extent ObjectPlace)) → IsShortest object_on rows
-      → PlacesFitIn sectors last (place_at object_on rows) → StartsFrom low rows → low ≤ sectors
+      → PlacesFitIn sectors ancestors last (place_at object_on rows) → StartsFrom low rows → low ≤ sectors
       → length rows + low ≤ sectors
   few_from low [] is fit starts within = omega arith
   few_from low (row ∷ rows) is fit starts within =
@@ -105,52 +108,55 @@ starts_at_none : (rows : List (Extent ObjectPlace)) → StartsFrom 0 rows
 starts_at_none [] = tt
 starts_at_none (row ∷ rows) = omega arith
 
-pub few_rows : (sectors last : ℕ) (rows : List (Extent ObjectPlace)) → IsShortest object_on rows
-    → PlacesFitIn sectors last (place_at object_on rows) → length rows ≤ sectors
-few_rows sectors last rows is fit =
-    let all = few_from sectors last 0 rows is fit (starts_at_none rows) (omega arith) in
+pub few_rows : (sectors ancestors last : ℕ) (rows : List (Extent ObjectPlace)) → IsShortest object_on rows
+    → PlacesFitIn sectors ancestors last (place_at object_on rows) → length rows ≤ sectors
+few_rows sectors ancestors last rows is fit =
+    let all = few_from sectors ancestors last 0 rows is fit (starts_at_none rows) (omega arith) in
     omega (arith, all)
 
 -- a row may stand in the checkpoint
 row_stands : (expected : Expected) (row : Extent ObjectPlace) → 0 < expected.number
-    → RowFitsIn expected.sectors (expected.number - 1) row → IsTrue (may_stand expected (stored_row row))
+    → RowFitsIn expected.sectors expected.ancestors (expected.number - 1) row → IsTrue (may_stand expected (stored_row row))
 row_stands expected row some fits =
-    let below : row.place.number < expected.number = omega (arith, some, fits.number) in
-    let own : row.place.level ≡ 0 = fits.own in
+    let below : row.place.level ≡ 0 → row.place.number < expected.number = λ own. omega (arith, some, fits.number own) in
+    let level : row.place.level ≤ expected.ancestors = fits.level in
     let sectors : 0 < row.sectors = fits.some in
     let end : row.lba + row.sectors ≤ expected.sectors = fits.end in
     let payload : row.place.sector + row.sectors ≤ 131071 = fits.payload in
     grind (arith, nat_tests)
 
-row_widths : (expected : Expected) (row : Extent ObjectPlace) → expected.number < 2 ^ 64 → expected.sectors ≤ 2147483648
-    → RowFitsIn expected.sectors (expected.number - 1) row → HasRowWidths (stored_row row)
-row_widths expected row number sectors fits = record {
+row_widths : (expected : Expected) (row : Extent ObjectPlace) → expected.sectors ≤ 2147483648 → IsPlaceWide (stored_row row)
+    → RowFitsIn expected.sectors expected.ancestors (expected.number - 1) row → HasRowWidths (stored_row row)
+row_widths expected row sectors wide fits = record {
   lba = omega (arith, sectors, fits.end);
   sectors = omega (arith, sectors, fits.end);
-  level = omega (arith, fits.own);
-  number = omega (arith, number, fits.number);
+  level = wide.0;
+  number = wide.1;
   place = omega (arith, fits.payload);
 }
 
-all_stand : (expected : Expected) (rows : List (Extent ObjectPlace)) → 0 < expected.number → expected.number < 2 ^ 64
-    → expected.sectors ≤ 2147483648 → IsShortest object_on rows
-    → PlacesFitIn expected.sectors (expected.number - 1) (place_at object_on rows) → AllMayStand expected (map stored_row rows)
-all_stand expected [] some number sectors is fit = tt
-all_stand expected (row ∷ rows) some number sectors is fit =
-    let row_fits = first_fits expected.sectors (expected.number - 1) row rows is fit in (
+all_stand : (expected : Expected) (rows : List (Extent ObjectPlace)) → 0 < expected.number → expected.sectors ≤ 2147483648
+    → IsShortest object_on rows → All IsPlaceWide (map stored_row rows)
+    → PlacesFitIn expected.sectors expected.ancestors (expected.number - 1) (place_at object_on rows)
+    → AllMayStand expected (map stored_row rows)
+all_stand expected [] some sectors is wide fit = tt
+all_stand expected (row ∷ rows) some sectors is wide fit =
+    let last = expected.number - 1 in
+    let row_fits = first_fits expected.sectors expected.ancestors last row rows is fit in (
       row_stands expected row some row_fits,
-      row_widths expected row number sectors row_fits,
-      all_stand expected rows some number sectors is.2 (rest_fit expected.sectors (expected.number - 1) row rows is fit),
+      row_widths expected row sectors (All-head IsPlaceWide (stored_row row) (map stored_row rows) wide) row_fits,
+      all_stand expected rows some sectors is.2 (All-tail IsPlaceWide (stored_row row) (map stored_row rows) wide)
+          (rest_fit expected.sectors expected.ancestors last row rows is fit),
     )
 
--- so the rows are those of a checkpoint
-pub are_rows : (expected : Expected) (rows : List (Extent ObjectPlace)) → 0 < expected.number → expected.number < 2 ^ 64
-    → expected.sectors ≤ 2147483648 → IsShortest object_on rows
-    → PlacesFitIn expected.sectors (expected.number - 1) (place_at object_on rows)
+-- so the rows are those of a checkpoint, where the numbers of their places have the width of their fields
+pub are_rows : (expected : Expected) (rows : List (Extent ObjectPlace)) → 0 < expected.number
+    → expected.sectors ≤ 2147483648 → IsShortest object_on rows → All IsPlaceWide (map stored_row rows)
+    → PlacesFitIn expected.sectors expected.ancestors (expected.number - 1) (place_at object_on rows)
     → AreCheckpointRows expected (map stored_row rows)
-are_rows expected rows some number sectors is fit = record {
+are_rows expected rows some sectors is wide fit = record {
   shortest = shortest rows is;
-  all_stand = all_stand expected rows some number sectors is fit;
+  all_stand = all_stand expected rows some sectors is wide fit;
 }
 
 -- and a checkpoint with them holds the places of the map

@@ -20,7 +20,8 @@ use Rattle.object_uploads.specs.Changes.{IsSealedNext}
 use Rattle.object_uploads.specs.Checkpoint.{HoldsPlaces, expected_next, HasSealedCheckpoint}
 use Rattle.object_uploads.specs.Stream.{IsPlacedIn, HoldsOwners, AreSealedOf, AreOfStream}
 use Rattle.object_uploads.specs.Laws.{with_checkpoint, SealingCheckpointKeepsStream}
-use Rattle.object_uploads.proofs.PlacedLemmas.{AreUpTo, up_to_all, HasSameEntries, has_its_own, owners_still, objects_same}
+use Rattle.object_uploads.proofs.PlacedLemmas.{OwnerUpTo, AreUpTo, up_to_all, HasSameEntries, has_its_own, owners_still}
+use Rattle.object_uploads.proofs.PlacedLemmas.{objects_same}
 use Rattle.object_uploads.proofs.KeepLemmas.{same_count, settle_all, place_all, tail_position, tail_last, tail_owners}
 use Rattle.object_uploads.proofs.GrowLemmas.{owners_up_to, object_sealed}
 
@@ -129,8 +130,8 @@ module _ (volume : Expected) (data_at : ℕ → ℕ) (stream : Stream) (old new 
       omega (arith, length-drop (from - stream.number) stream.objects, are.from, most) in
       let low = owners_up_to volume data_at stream stream old uploads are (has_its_own stream) in
       let all = up_to_all stream volume from rest.end rest.entries (owners stream from) rest.objects list sealed_are low in
-      λ k. subst (λ n. IfSome (owners stream (last_number stream) k) (λ owner. owner.number ≤ n)) size
-      (subst (λ o. IfSome o (λ owner. owner.number ≤ from + length rest.objects))
+      λ k. subst (λ n. IfSome (owners stream (last_number stream) k) (OwnerUpTo n)) size
+      (subst (λ o. IfSome o (OwnerUpTo (from + length rest.objects)))
       (tail_owners stream from are.valid are.from most k) (all k))
 
   now_sealed : IsSealedNext has.bytes sealed_rows.Checkpoint last_end old new

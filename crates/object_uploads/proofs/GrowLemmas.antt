@@ -26,7 +26,7 @@ use Rattle.object_uploads.specs.State.{SealedState, UploadsState}
 use Rattle.object_uploads.specs.Queue.{just_sealed, IsEntered}
 use Rattle.object_uploads.specs.Order.{PlaceFits, IsUploads}
 use Rattle.object_uploads.specs.Changes.{IsSealedNext}
-use Rattle.object_uploads.specs.Stream.{IsPlacedIn, IsSealedOf, AreSealedOf, AreOfStream}
+use Rattle.object_uploads.specs.Stream.{IsPlacedInherited, IsPlacedIn, IsSealedOf, AreSealedOf, AreOfStream}
 use Rattle.object_uploads.specs.Laws.{with_entry, with_data_object, StreamBegins, EnteringKeepsStream, SealingKeepsStream}
 use Rattle.object_uploads.specs.Laws.{SealingCopyKeepsStream}
 use Rattle.object_uploads.proofs.PlacedLemmas.{AreUpTo, settled_up_to, HasSameEntries, settled_still, sealed_still}
@@ -47,21 +47,30 @@ none_dropped zero [] empty = refl
 none_dropped (suc n) [] empty = refl
 none_dropped n (x ∷ xs) empty = absurd (omega arith)
 
--- no place of the volume's own objects is past the one that the stream opens with
-none_past : (stream : Stream) (sectors k : ℕ) (place : Option ObjectPlace)
-    → IfSome place (PlaceFits sectors stream.number k) → IfSome place (IsPlacedIn stream k)
-none_past stream sectors k None fits = tt
-none_past stream sectors k (Some place) fits = λ own past. absurd (omega (arith, fits.number, past))
+-- no place of the volume's own objects is past the one that the stream opens with, and those of its ancestors' are its own
+none_past : (stream : Stream) (sectors ancestors k : ℕ) (place : Option ObjectPlace)
+    → IfSome place (PlaceFits sectors ancestors stream.number k) → IfSome place (IsPlacedInherited stream.inherited k)
+    → IfSome place (IsPlacedIn stream k)
+none_past stream sectors ancestors k None fits at = tt
+none_past stream sectors ancestors k (Some place) fits at = (λ own past. absurd (omega (arith, fits.number own, past)), at)
 
 pub stream_begins : StreamBegins
-stream_begins volume data_at uploads number end opening window frontier end_is sealed log are settled =
+stream_begins volume data_at uploads number end opening inherited window frontier end_is sealed log are settled others =
     let count : number + 0 ≡ number = omega arith in
-    let stream : Stream = record { number = number; end = end; opening = opening; entries = []; objects = [] } in
+    let stream : Stream = record {
+      number = number;
+      end = end;
+      opening = opening;
+      inherited = inherited;
+      entries = [];
+      objects = [];
+    } in
     let taken : (n : ℕ) → objects_to stream n ≡ [] = λ n. none_taken (n - number) stream.objects refl in
     let ends : (n : ℕ) → end_at stream n ≡ end = λ n. ap (end_after end) (taken n) in
     let placed : (k : ℕ) → IfSome (settled_at uploads.queue.maps k) (IsPlacedIn stream k) =
-    λ k. none_past stream uploads.sectors k (settled_at uploads.queue.maps k)
-    (subst (λ n. IfSome (settled_at uploads.queue.maps k) (PlaceFits uploads.sectors n k)) frontier (are.places k)) in
+    λ k. none_past stream uploads.sectors uploads.ancestors k (settled_at uploads.queue.maps k)
+    (subst (λ n. IfSome (settled_at uploads.queue.maps k) (PlaceFits uploads.sectors uploads.ancestors n k)) frontier
+    (are.places k)) (others k) in
     let logged : (k : ℕ) → logged_at uploads.queue.maps k ≡ None = λ k. ap (λ rows. place_at log_on rows k) log in
     rw (frontier, window, end_is, sealed) (record {
       valid = record { ends = tt; within = omega (arith, ends (last_number stream)) };
@@ -142,7 +151,8 @@ module _ (volume : Expected) (data_at : ℕ → ℕ) (stream new : Stream) (old 
 
   pub grown_placed : (k : ℕ) → IfSome (settled_at old.queue.maps k) (IsPlacedIn new k)
   grown_placed =
-      settled_still stream new old.sectors old.queue.frontier old.queue.maps same frontier_within uploads.places are.placed
+      settled_still stream new old.sectors old.ancestors old.queue.frontier old.queue.maps same frontier_within uploads.places
+      are.placed
 
   tail_count : old.queue.frontier + length (from_object old.queue.frontier stream).objects ≤ last_number stream
   tail_count =
@@ -150,7 +160,8 @@ module _ (volume : Expected) (data_at : ℕ → ℕ) (stream new : Stream) (old 
 
   pub owners_up_to : AreUpTo old.queue.frontier (owners stream old.queue.frontier)
   owners_up_to =
-      settled_up_to old.sectors old.queue.frontier old.queue.maps (owners stream old.queue.frontier) uploads.places are.settled
+      settled_up_to old.sectors old.ancestors old.queue.frontier old.queue.maps (owners stream old.queue.frontier) uploads.places
+      are.settled
 
   pub grown_still : AreSealedOf new volume old.queue.frontier (end_at stream old.queue.frontier)
       (from_object old.queue.frontier stream).entries (owners stream old.queue.frontier)

@@ -56,13 +56,14 @@ image_begins queue sectors sealed settled =
 -- while the places, the objects and their receipts stay, the image does
 same_image : (old new : QueueState) → new.maps.settled.rows ≡ old.maps.settled.rows
     → new.maps.objects.rows ≡ old.maps.objects.rows → new.receipts ≡ old.receipts
-    → (image : Image) → HasImage image old → HasImage image new
-same_image old new settled objects receipts image has k sector at = rw (settled, objects, receipts) (has k sector at)
+    → new.inherited ≡ old.inherited → (image : Image) → HasImage image old → HasImage image new
+same_image old new settled objects receipts inherited image has k sector at =
+    rw (settled, objects, receipts, inherited) (has k sector at)
 
 pub entering_keeps_image : EnteringKeepsImage
 entering_keeps_image entry seq data_at old new entered = record {
   image = same_image old new (ap (λ (m : _). m.rows) entered.settled) (ap (λ (t : TableState). t.rows) entered.objects)
-      entered.receipts;
+      entered.receipts entered.inherited;
   receipts = λ told. rw entered.sealed told;
   copies = λ tells image copied.
       are_copied_same tells image old new entered.frontier (ap (λ (m : _). m.rows) entered.settled) entered.sealed copied;
@@ -94,7 +95,7 @@ no_copy sealed_rows.Checkpoint tells image frontier maps bytes other = tt
 pub sealing_keeps_image : SealingKeepsImage
 sealing_keeps_image bytes rows end old new other sealed = record {
   image = same_image old.queue new.queue sealed.settled.places.settled sealed.settled.places.objects
-      sealed.settled.receipts;
+      sealed.settled.receipts sealed.settled.inherited;
   receipts = receipts_more bytes rows end old new sealed;
   copies = λ tells image copied.
       copies_more bytes rows end old new tells image sealed
@@ -103,7 +104,8 @@ sealing_keeps_image bytes rows end old new other sealed = record {
 
 pub sealing_copy_keeps_image : SealingCopyKeepsImage
 sealing_copy_keeps_image bytes rows end old new tells image sealed own has told copied = (
-  same_image old.queue new.queue sealed.settled.places.settled sealed.settled.places.objects sealed.settled.receipts image has,
+  same_image old.queue new.queue sealed.settled.places.settled sealed.settled.places.objects sealed.settled.receipts
+      sealed.settled.inherited image has,
   receipts_more bytes (sealed_rows.Copy rows) end old new sealed told,
   copies_more bytes (sealed_rows.Copy rows) end old new tells image sealed own copied,
 )
@@ -111,7 +113,7 @@ sealing_copy_keeps_image bytes rows end old new tells image sealed own has told 
 pub room_keeps_image : RoomKeepsImage
 room_keeps_image old new same = record {
   image = same_image old.queue new.queue same.settled.places.settled same.settled.places.objects
-      same.settled.receipts;
+      same.settled.receipts same.settled.inherited;
   receipts = λ told. rw same.sealed told;
   copies = λ tells image copied.
       are_copied_same tells image old.queue new.queue same.settled.frontier same.settled.places.settled same.sealed copied;
@@ -204,14 +206,15 @@ done_makes_image volume data_at stream old new number bytes receipt tells image 
     ap (λ e. take (e - old.queue.end) part.entries) done.settled.end in
     let copies = all_with (CopiedOf tells image from old.queue.maps) (index_of old number) (with_receipt receipt)
     old.queue.sealed (λ s is. is) copied in
-    let all = has_all volume stream done.count from old.queue.end part.entries (owners stream from) part.objects list
+    let all = has_all old.queue.inherited volume stream done.count from old.queue.end part.entries (owners stream from)
+    part.objects list
     old.queue.receipts old.queue.maps new.queue.maps tells image (known_up_to old.uuid old.queue uploads.known) sealed follow
     done.settled.acknowledged (acknowledged_tell old number bytes receipt out for_it told)
     (subst (All (Tells tells)) done.settled.receipts alike.known) copies done.settled.within
     (subst (All (EndsBy (length image))) entries ends) done.settled.maps has in (
       λ k sector at.
           (let held = all.0 k sector (ap (λ es. slice_get (after image es) k) (sym entries) ∙ at) in
-          rw done.settled.receipts held),
+          rw (done.settled.receipts, done.settled.inherited) held),
       rw (entries, done.settled.frontier, done.settled.sealed) all.1,
     )
 
@@ -220,16 +223,18 @@ done_makes_image volume data_at stream old new number bytes receipt tells image 
 pub adopting_makes_image : AdoptingMakesImage
 adopting_makes_image volume end_before entries bytes rows end receipt old new image uploads is adopted tells ends has k sector
     at =
-    let held = has_data volume old.queue.frontier end_before receipt.size end entries bytes rows.items end old.queue.receipts
+    let held = has_data old.queue.inherited volume old.queue.frontier end_before receipt.size end entries bytes rows.items end
+    old.queue.receipts
     receipt old.queue.maps new.queue.maps image (known_up_to old.uuid old.queue uploads.known) is tells ends adopted.settled.maps
     has k
     sector at in
-    rw adopted.settled.receipts held
+    rw (adopted.settled.receipts, adopted.settled.inherited) held
 
 pub adopting_copy_keeps_image : AdoptingCopyKeepsImage
 adopting_copy_keeps_image volume end_before pairs bytes rows end receipt old new image uploads is adopted for_it copied has k
     sector at =
-    let held = has_copy volume old.queue.frontier end_before receipt.size end pairs bytes rows.items old.queue.receipts receipt
+    let held = has_copy old.queue.inherited volume old.queue.frontier end_before receipt.size end pairs bytes rows.items
+    old.queue.receipts receipt
     old.queue.maps new.queue.maps image (known_up_to old.uuid old.queue uploads.known) is for_it copied adopted.settled.maps has
     k sector at in
-    rw adopted.settled.receipts held
+    rw (adopted.settled.receipts, adopted.settled.inherited) held

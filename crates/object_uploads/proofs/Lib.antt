@@ -27,6 +27,7 @@ pub mod ImageLemmas
 pub mod AdoptLemmas
 pub mod AdoptCopy
 pub mod ReceiptLemmas
+pub mod InheritedLemmas
 pub mod RemovedLemmas
 pub mod DeadLemmas
 pub mod DeadRows

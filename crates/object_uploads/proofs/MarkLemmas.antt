@@ -49,16 +49,18 @@ without_names uuid queue known = record {
   shortest = known.shortest;
 }
 
-pub uploads_marked : (is_copied : Bool) (numbers : List ℕ) (uuid : List ℕ) (sectors : ℕ) (window : WindowState)
+pub uploads_marked : (is_copied : Bool) (numbers : List ℕ) (uuid : List ℕ) (sectors ancestors : ℕ) (window : WindowState)
     (queue : QueueState)
-    → IsUploads (whole uuid sectors queue window) → IsUploads (whole uuid sectors (marked_in is_copied numbers queue) window)
-uploads_marked is_copied [] uuid sectors window queue are = are
-uploads_marked is_copied (number ∷ numbers) uuid sectors window queue are =
-    uploads_marked is_copied numbers uuid sectors window (marked is_copied number queue)
-    (uploads_changed uuid sectors window queue (marked is_copied number queue) are (record {
+    → IsUploads (whole uuid sectors ancestors queue window)
+    → IsUploads (whole uuid sectors ancestors (marked_in is_copied numbers queue) window)
+uploads_marked is_copied [] uuid sectors ancestors window queue are = are
+uploads_marked is_copied (number ∷ numbers) uuid sectors ancestors window queue are =
+    uploads_marked is_copied numbers uuid sectors ancestors window (marked is_copied number queue)
+    (uploads_changed uuid sectors ancestors window queue (marked is_copied number queue) are (record {
       frontier = refl;
       end = refl;
       sealed = refl;
+      inherited = refl;
       settled = refl;
       log = refl;
     }) (known_marked is_copied number queue (without_names uuid queue are.known)) are.known.named)
@@ -69,10 +71,12 @@ pub marks_change_objects_alone : MarksChangeObjectsAlone
 marks_change_objects_alone is_copied [] uploads = record {
   uuid = refl;
   sectors = refl;
+  ancestors = refl;
   window = refl;
   frontier = refl;
   end = refl;
   sealed = refl;
+  inherited = refl;
   settled = refl;
   log = refl;
 }
@@ -82,10 +86,12 @@ marks_change_objects_alone is_copied (number ∷ numbers) uploads =
     record {
       uuid = rest.uuid;
       sectors = rest.sectors;
+      ancestors = rest.ancestors;
       window = rest.window;
       frontier = rest.frontier;
       end = rest.end;
       sealed = rest.sealed;
+      inherited = rest.inherited;
       settled = rest.settled;
       log = rest.log;
     }

@@ -30,55 +30,63 @@ use Rattle.object_uploads.specs.declared.rows.SealedRows.TheVariants as sealed_r
 use Rattle.object_uploads.specs.State.{SealedState}
 use Rattle.object_uploads.specs.Order.{PlaceFits, PlacesFit}
 use Rattle.object_stream.specs.Stream.{place_in_copy, place_in_object}
-use Rattle.object_uploads.specs.Stream.{object_at, IsPlacedIn, HoldsOwners, HoldsContent}
+use Rattle.object_uploads.specs.Stream.{object_at, IsPlacedInherited, IsPlacedIn, HoldsOwners, HoldsContent}
 use Rattle.object_uploads.specs.Stream.{IsSealedOf, AreSealedOf}
 use Rattle.object_uploads.proofs.CopyRanks.{IsPlacedByCopy}
 
 -- ---- owners and places up to a number
 
--- each owner has a number up to this one
-abbrev pub AreUpTo : (number : ℕ) → Owners → Type 0
-AreUpTo number owned = (k : ℕ) → IfSome (owned k) (λ (owner : Owner). owner.number ≤ number)
+-- an owner of the volume's own has a number up to this one, and so has a place
+abbrev pub OwnerUpTo : (number : ℕ) → Owner → Type 0
+OwnerUpTo number owner = owner.level ≡ 0 → owner.number ≤ number
 
-owner_up_to : (sectors last k : ℕ) (place : Option ObjectPlace) → IfSome place (PlaceFits sectors last k)
-    → IfSome (place_owner place) (λ (owner : Owner). owner.number ≤ last)
-owner_up_to sectors last k None fits = tt
-owner_up_to sectors last k (Some place) fits = fits.number
+abbrev PlaceUpTo : (number : ℕ) → ObjectPlace → Type 0
+PlaceUpTo number place = place.level ≡ 0 → place.number ≤ number
+
+-- so has each owner of the volume's own
+abbrev pub AreUpTo : (number : ℕ) → Owners → Type 0
+AreUpTo number owned = (k : ℕ) → IfSome (owned k) (OwnerUpTo number)
+
+owner_up_to : (sectors ancestors last k : ℕ) (place : Option ObjectPlace) → IfSome place (PlaceFits sectors ancestors last k)
+    → IfSome (place_owner place) (OwnerUpTo last)
+owner_up_to sectors ancestors last k None fits = tt
+owner_up_to sectors ancestors last k (Some place) fits = fits.number
 
 place_up_to : (n : ℕ) (place : Option ObjectPlace) (owner : Option Owner) → place_owner place ≡ owner
-    → IfSome owner (λ (o : Owner). o.number ≤ n) → IfSome place (λ (p : ObjectPlace). p.number ≤ n)
+    → IfSome owner (OwnerUpTo n) → IfSome place (PlaceUpTo n)
 place_up_to n None owner same low = tt
-place_up_to n (Some place) owner same low = subst (λ o. IfSome o (λ (it : Owner). it.number ≤ n)) (sym same) low
+place_up_to n (Some place) owner same low = subst (λ o. IfSome o (OwnerUpTo n)) (sym same) low
 
 -- the owners of a map's places are up to the frontier, as the places are
-pub settled_up_to : (sectors frontier : ℕ) (maps : MapsState) (owned : Owners) → PlacesFit sectors frontier maps
+pub settled_up_to : (sectors ancestors frontier : ℕ) (maps : MapsState) (owned : Owners)
+    → PlacesFit sectors ancestors frontier maps
     → ((k : ℕ) → place_owner (settled_at maps k) ≡ owned k) → AreUpTo frontier owned
-settled_up_to sectors frontier maps owned fits same k =
-    subst (λ o. IfSome o (λ (it : Owner). it.number ≤ frontier)) (same k)
-    (owner_up_to sectors frontier k (settled_at maps k) (fits k))
+settled_up_to sectors ancestors frontier maps owned fits same k =
+    subst (λ o. IfSome o (OwnerUpTo frontier)) (same k)
+    (owner_up_to sectors ancestors frontier k (settled_at maps k) (fits k))
 
 up_to_change : (number : ℕ) (change : Option Change) (before : Option Owner)
-    → IfSome before (λ (owner : Owner). owner.number ≤ number)
-    → IfSome (owner_by_change (number + 1) change before) (λ (owner : Owner). owner.number ≤ number + 1)
+    → IfSome before (OwnerUpTo number)
+    → IfSome (owner_by_change (number + 1) change before) (OwnerUpTo (number + 1))
 up_to_change number None None low = tt
-up_to_change number None (Some owner) low = omega (arith, low)
-up_to_change number (Some (Put sector)) before low = omega arith
+up_to_change number None (Some owner) low = λ own. omega (arith, low own)
+up_to_change number (Some (Put sector)) before low = λ own. omega arith
 up_to_change number (Some Clear) before low = tt
 
-up_to_more : (number : ℕ) (before : Option Owner) → IfSome before (λ (owner : Owner). owner.number ≤ number)
-    → IfSome before (λ (owner : Owner). owner.number ≤ number + 1)
+up_to_more : (number : ℕ) (before : Option Owner) → IfSome before (OwnerUpTo number)
+    → IfSome before (OwnerUpTo (number + 1))
 up_to_more number None low = tt
-up_to_more number (Some owner) low = omega (arith, low)
+up_to_more number (Some owner) low = λ own. omega (arith, low own)
 
-up_to_test : (test : Bool) (number : ℕ) (before : Option Owner) → IfSome before (λ (owner : Owner). owner.number ≤ number + 1)
+up_to_test : (test : Bool) (number : ℕ) (before : Option Owner) → IfSome before (OwnerUpTo (number + 1))
     → IfSome (cond test (Some (record { level = 0; number = number + 1 })) before)
-    (λ (owner : Owner). owner.number ≤ number + 1)
-up_to_test true number before low = omega arith
+    (OwnerUpTo (number + 1))
+up_to_test true number before low = λ own. omega arith
 up_to_test false number before low = low
 
 up_to_copy : (number : ℕ) (source : Option ℕ) (before : Option Owner)
-    → IfSome before (λ (owner : Owner). owner.number ≤ number)
-    → IfSome (owner_by_copy (number + 1) source before) (λ (owner : Owner). owner.number ≤ number + 1)
+    → IfSome before (OwnerUpTo number)
+    → IfSome (owner_by_copy (number + 1) source before) (OwnerUpTo (number + 1))
 up_to_copy number None before low = up_to_more number before low
 up_to_copy number (Some source) before low =
     up_to_test (is_own source before) number before (up_to_more number before low)
@@ -162,15 +170,16 @@ sealed_after_same stream volume number end entries owned others (object ∷ list
 
 -- ---- a stream that grows
 
--- a stream has the objects of another up to its last, each with the entries that it had
+-- a stream has the objects of another up to its last, each with the entries that it had, and the places of its ancestors'
 pub record HasSameEntries (old new : Stream) : Type 0 where
   pub number : new.number ≡ old.number
+  pub inherited : (k : ℕ) → new.inherited k ≡ old.inherited k
   pub objects : (n : ℕ) → old.number < n → n ≤ last_number old → object_at new n ≡ object_at old n
   pub entries : (n : ℕ) → n ≤ last_number old → entries_in_object new n ≡ entries_in_object old n
 
 -- a stream has its own
 pub has_its_own : (stream : Stream) → HasSameEntries stream stream
-has_its_own stream = record { number = refl; objects = λ n past low. refl; entries = λ n low. refl }
+has_its_own stream = record { number = refl; inherited = λ k. refl; objects = λ n past low. refl; entries = λ n low. refl }
 
 -- a place is where an object, with these entries where it is a data object, has the sector
 abbrev pub IsPlaceIn : (place k : ℕ) → List Entry → Option StreamObject → Type 0
@@ -179,32 +188,42 @@ IsPlaceIn place k entries object =
 
 -- so a place that is in one of these stays where the object has the sector
 pub placed_still : (old new : Stream) (k : ℕ) (place : Option ObjectPlace) → HasSameEntries old new
-    → IfSome place (λ (p : ObjectPlace). p.number ≤ last_number old) → IfSome place (IsPlacedIn old k)
+    → IfSome place (PlaceUpTo (last_number old)) → IfSome place (IsPlacedIn old k)
     → IfSome place (IsPlacedIn new k)
 placed_still old new k None same low is = tt
-placed_still old new k (Some place) same low is = λ own past.
-    let n = place.number in
-    let was_past : old.number < n = subst (λ m. m < n) same.number past in
-    let now : IsPlaceIn place.sector k (entries_in_object new n) (object_at old n) =
-    subst (λ es. IsPlaceIn place.sector k es (object_at old n)) (sym (same.entries n low)) (is own was_past) in
-    subst (IsPlaceIn place.sector k (entries_in_object new n)) (sym (same.objects n was_past low)) now
+placed_still old new k (Some place) same low is = (
+  λ own past.
+      let n = place.number in
+      let was_past : old.number < n = subst (λ m. m < n) same.number past in
+      let now : IsPlaceIn place.sector k (entries_in_object new n) (object_at old n) =
+      subst (λ es. IsPlaceIn place.sector k es (object_at old n)) (sym (same.entries n (low own))) (is.0 own was_past) in
+      subst (IsPlaceIn place.sector k (entries_in_object new n)) (sym (same.objects n was_past (low own))) now,
+  λ another. is.1 another ∙ sym (same.inherited k),
+)
 
-fits_low : (sectors last most k : ℕ) (place : Option ObjectPlace) → last ≤ most → IfSome place (PlaceFits sectors last k)
-    → IfSome place (λ (p : ObjectPlace). p.number ≤ most)
-fits_low sectors last most k None within fits = tt
-fits_low sectors last most k (Some place) within fits = omega (arith, fits.number, within)
+-- a place of the volume's own is at none of its ancestors'
+pub none_inherited : (inherited : ℕ → ℕ) (k : ℕ) (place : ObjectPlace) → place.level ≡ 0 → IsPlacedInherited inherited k place
+none_inherited inherited k place own another = absurd (omega (arith, own, another))
 
-low_more : (n most : ℕ) (place : Option ObjectPlace) → n ≤ most → IfSome place (λ (p : ObjectPlace). p.number ≤ n)
-    → IfSome place (λ (p : ObjectPlace). p.number ≤ most)
+fits_low : (sectors ancestors last most k : ℕ) (place : Option ObjectPlace) → last ≤ most
+    → IfSome place (PlaceFits sectors ancestors last k)
+    → IfSome place (PlaceUpTo most)
+fits_low sectors ancestors last most k None within fits = tt
+fits_low sectors ancestors last most k (Some place) within fits = λ own. omega (arith, fits.number own, within)
+
+low_more : (n most : ℕ) (place : Option ObjectPlace) → n ≤ most → IfSome place (PlaceUpTo n)
+    → IfSome place (PlaceUpTo most)
 low_more n most None within low = tt
-low_more n most (Some place) within low = omega (arith, low, within)
+low_more n most (Some place) within low = λ own. omega (arith, low own, within)
 
 -- those in the objects' map stay
-pub settled_still : (old new : Stream) (sectors frontier : ℕ) (maps : MapsState) → HasSameEntries old new
-    → frontier ≤ last_number old → PlacesFit sectors frontier maps → ((k : ℕ) → IfSome (settled_at maps k) (IsPlacedIn old k))
+pub settled_still : (old new : Stream) (sectors ancestors frontier : ℕ) (maps : MapsState) → HasSameEntries old new
+    → frontier ≤ last_number old → PlacesFit sectors ancestors frontier maps
+    → ((k : ℕ) → IfSome (settled_at maps k) (IsPlacedIn old k))
     → (k : ℕ) → IfSome (settled_at maps k) (IsPlacedIn new k)
-settled_still old new sectors frontier maps same within fits placed k =
-    placed_still old new k (settled_at maps k) same (fits_low sectors frontier (last_number old) k (settled_at maps k) within
+settled_still old new sectors ancestors frontier maps same within fits placed k =
+    placed_still old new k (settled_at maps k) same (fits_low sectors ancestors frontier (last_number old) k (settled_at maps k)
+    within
     (fits k)) (placed k)
 
 -- a checkpoint of owners up to one of these stays that
@@ -291,6 +310,7 @@ pub longer_same : (stream : Stream) (more : List Entry) → IsStream stream
     → end_after stream.end stream.objects ≡ end_at stream (last_number stream) → HasSameEntries stream (longer more stream)
 longer_same stream more valid last = record {
   number = refl;
+  inherited = λ k. refl;
   objects = λ n past low. refl;
   entries = λ n low.
       part_of_more (end_at stream (n - 1)) (end_at stream n) stream.end stream.entries more (no_earlier stream (n - 1) valid)
@@ -310,6 +330,7 @@ get_append (suc i) (x ∷ first) more low = get_append i first more (omega arith
 pub objects_same : (stream : Stream) (more : List StreamObject) → HasSameEntries stream (with_objects more stream)
 objects_same stream more = record {
   number = refl;
+  inherited = λ k. refl;
   objects = λ n past low. get_append (n - (stream.number + 1)) stream.objects more (omega (arith, past, low));
   entries = λ n low.
       ap (λ e. take (e - end_at (with_objects more stream) (n - 1))
@@ -321,6 +342,7 @@ objects_same stream more = record {
 pub both_same : (a b c : Stream) → HasSameEntries a b → HasSameEntries b c → last_number a ≤ last_number b → HasSameEntries a c
 both_same a b c first next within = record {
   number = next.number ∙ first.number;
+  inherited = λ k. next.inherited k ∙ first.inherited k;
   objects = λ n past low.
       next.objects n (subst (λ m. m < n) (sym first.number) past) (omega (arith, low, within)) ∙ first.objects n past low;
   entries = λ n low. next.entries n (omega (arith, low, within)) ∙ first.entries n low;
@@ -439,8 +461,9 @@ placed_by_change stream number k entries payload None before after is put under 
 placed_by_change stream number k entries payload (Some Clear) before after is put under was =
     subst (λ p. IfSome p (IsPlacedIn stream k)) (sym is) tt
 placed_by_change stream number k entries payload (Some (Put sector)) before after is put under was =
+    let place : ObjectPlace = record { level = 0; number = number; sector = place_in_payload entries k } in
     subst (λ p. IfSome p (IsPlacedIn stream k)) (sym (put refl))
-    (λ own past. is_at_place stream number k Data entries under)
+    (λ own past. is_at_place stream number k Data entries under, none_inherited stream.inherited k place refl)
 
 -- so it is after a copy
 placed_by_test : (test : Bool) (stream : Stream) (number k : ℕ) (pairs : List CopiedSector) (entries : List Entry)
@@ -448,7 +471,8 @@ placed_by_test : (test : Bool) (stream : Stream) (number k : ℕ) (pairs : List 
     → IfSome (cond test (Some (record { level = 0; number = number; sector = place_in_copy pairs k })) before)
     (IsPlacedIn stream k)
 placed_by_test true stream number k pairs entries before under was =
-    λ own past. is_at_place stream number k (Copy pairs) entries under
+    let place : ObjectPlace = record { level = 0; number = number; sector = place_in_copy pairs k } in
+    (λ own past. is_at_place stream number k (Copy pairs) entries under, none_inherited stream.inherited k place refl)
 placed_by_test false stream number k pairs entries before under was = was
 
 pub placed_by_source : (stream : Stream) (payload number k : ℕ) (pairs : List CopiedSector) (rows : List CopyRow)

@@ -29,21 +29,22 @@ use Rattle.object_uploads.proofs.UploadsKept.{whole}
 
 -- ---- the places of a volume
 
-in_by : (volume last k : ℕ) (place : Option ObjectPlace) → IfSome place (PlaceFits volume last k)
+in_by : (volume ancestors last k : ℕ) (place : Option ObjectPlace) → IfSome place (PlaceFits volume ancestors last k)
     → IfSome place (λ (place : ObjectPlace). (k < volume) × (place.sector < 131071))
-in_by volume last k None fits = tt
-in_by volume last k (Some place) fits = (fits.inside, fits.payload)
+in_by volume ancestors last k None fits = tt
+in_by volume ancestors last k (Some place) fits = (fits.inside, fits.payload)
 
-pub places_are_in : (volume last : ℕ) (queue : QueueState) → PlacesFit volume last queue.maps → PlacesAreIn volume queue.maps
-places_are_in volume last queue fit k = in_by volume last k (settled_at queue.maps k) (fit k)
+pub places_are_in : (volume ancestors last : ℕ) (queue : QueueState) → PlacesFit volume ancestors last queue.maps
+    → PlacesAreIn volume queue.maps
+places_are_in volume ancestors last queue fit k = in_by volume ancestors last k (settled_at queue.maps k) (fit k)
 
 -- a plan of the maps of a queue
-pub plans_of : (volume most : ℕ) (queue : QueueState) (maps : MapsState) (rows : List CopyRow) → maps ≡ queue.maps
-    → ((v : ℕ) → PlacesAreIn v maps → PlansCopy v most maps rows) → PlacesFit volume queue.frontier queue.maps
+pub plans_of : (volume ancestors most : ℕ) (queue : QueueState) (maps : MapsState) (rows : List CopyRow) → maps ≡ queue.maps
+    → ((v : ℕ) → PlacesAreIn v maps → PlansCopy v most maps rows) → PlacesFit volume ancestors queue.frontier queue.maps
     → PlansCopy volume most queue.maps rows
-plans_of volume most queue maps rows is planned fit =
+plans_of volume ancestors most queue maps rows is planned fit =
     subst (λ m. PlansCopy volume most m rows) is
-    (planned volume (subst (PlacesAreIn volume) (sym is) (places_are_in volume queue.frontier queue fit)))
+    (planned volume (subst (PlacesAreIn volume) (sym is) (places_are_in volume ancestors queue.frontier queue fit)))
 
 -- ---- rows in order
 

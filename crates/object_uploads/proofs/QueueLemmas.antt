@@ -21,9 +21,9 @@ pub settles_one : (old new : QueueState) (first : SealedState) (rest : List Seal
     → old.sealed ≡ first ∷ rest → first.receipt ≡ Some receipt
     → new.frontier ≡ old.frontier + 1 → new.end ≡ first.end → new.sealed ≡ rest
     → new.receipts ≡ old.receipts ++ record { number = old.frontier + 1; receipt = receipt } ∷ [] → new.removal ≡ old.removal
-    → SettlesSealed (old.frontier + 1) (length first.bytes) first.rows first.end old.maps new.maps
+    → new.inherited ≡ old.inherited → SettlesSealed (old.frontier + 1) (length first.bytes) first.rows first.end old.maps new.maps
     → IsSettledBy 1 old new
-settles_one old new first rest receipt sealed given frontier end left receipts removal maps =
+settles_one old new first rest receipt sealed given frontier end left receipts removal inherited maps =
     let one : take 1 old.sealed ≡ first ∷ [] = rw sealed refl in
     let count : length old.sealed ≡ suc (length rest) = ap length sealed in
     record {
@@ -34,6 +34,7 @@ settles_one old new first rest receipt sealed given frontier end left receipts r
       end = rw one end;
       sealed = rw sealed left;
       removal = removal;
+      inherited = inherited;
       maps = rw one (new.maps, maps, refl);
     }
 
@@ -95,6 +96,7 @@ settles_none queue = record {
   end = refl;
   sealed = refl;
   removal = refl;
+  inherited = refl;
   maps = refl;
 }
 
@@ -120,6 +122,7 @@ settles_more count more old middle new first second =
       end = second.end ∙ (ap (λ e. end_of_last e b) first.end
           ∙ (sym (end_in_parts old.end a b) ∙ sym (ap (end_of_last old.end) split)));
       removal = second.removal ∙ first.removal;
+      inherited = second.inherited ∙ first.inherited;
       sealed = second.sealed ∙ (ap (drop more) first.sealed ∙ (drop-drop more count old.sealed ∙ refl));
       maps = rw split (settles_in_parts old.frontier a b old.maps middle.maps new.maps first.maps
           (subst (λ n. SettlesObjects n b middle.maps new.maps) (sym at) second.maps));

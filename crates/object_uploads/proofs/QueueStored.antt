@@ -11,7 +11,7 @@ use Rattle.object_table.specs.declared.row.ObjectRow.{ObjectRow}
 use Rattle.object_table.specs.Table.{has_number, numbers, row_of}
 use Rattle.volume_maps.specs.declared.place.ObjectPlace.{ObjectPlace}
 use Rattle.object_uploads.specs.State.{StoredObject, QueueState}
-use Rattle.object_uploads.specs.Queue.{receipt_in, stored_with, stored_at}
+use Rattle.object_uploads.specs.Queue.{receipt_in, stored_with, inherited_in, stored_at}
 use Rattle.object_uploads.specs.Order.{is_out}
 use Rattle.object_uploads.specs.Invariant.{IsKnown}
 use Rattle.object_uploads.proofs.RemovedLemmas.{without_number}
@@ -47,17 +47,17 @@ stored_either None row none = refl
 stored_either (Some receipt) None none = let gone = none refl in absurd cc
 stored_either (Some receipt) (Some row) none = refl
 
-stored_by : (test : Bool) (receipt : Option ReceiptState) (row : Option ObjectRow) → test ≡ true
+stored_by : (test : Bool) (receipt : Option ReceiptState) (row : Option ObjectRow) (other : Option StoredObject) → test ≡ true
     → option_map (λ (o : StoredObject). o.receipt) (stored_with receipt row) ≡ receipt
-    → option_map (λ (o : StoredObject). o.receipt) (cond test (stored_with receipt row) None) ≡ receipt
-stored_by true receipt row own known = known
-stored_by false receipt row own known = absurd cc
+    → option_map (λ (o : StoredObject). o.receipt) (cond test (stored_with receipt row) other) ≡ receipt
+stored_by true receipt row other own known = known
+stored_by false receipt row other own known = absurd cc
 
 -- each receipt is that of an object that is in the store
 pub stored_receipt : (queue : QueueState) (place : ObjectPlace) → IsKnown queue → place.level ≡ 0
     → option_map (λ (o : StoredObject). o.receipt) (stored_at queue place) ≡ receipt_in queue.receipts place.number
 stored_receipt queue place known own =
     stored_by (place.level == 0) (receipt_in queue.receipts place.number) (row_of place.number queue.maps.objects.rows)
-    (grind (arith, nat_tests))
+    (inherited_in queue.inherited (record { level = place.level; number = place.number })) (grind (arith, nat_tests))
     (stored_either (receipt_in queue.receipts place.number) (row_of place.number queue.maps.objects.rows)
     (no_receipt queue place.number known))

@@ -2,7 +2,7 @@
 use Rattle.std.proofs.Common.{◌≡◌, ℕ, zero, suc, ◌+◌, ◌-◌, ◌<◌, ◌≤◌, ◌⊎◌, inl, inr, ◌&&◌, ◌||◌, not, nat_le, Bool, true, false}
 use Rattle.std.proofs.Common.{Option, Some, None, List, [], ◌∷◌, length, take, drop, refl, sym, ◌∙◌, ap, subst, arith}
 use Rattle.std.proofs.Common.{length-drop}
-use Rattle.std.specs.Prelude.{IsTrue, IfSome, max}
+use Rattle.std.specs.Prelude.{IsTrue, max}
 use Rattle.std.specs.List.{All, list_any}
 use Rattle.std.proofs.lemmas.Bool.{cases_lt}
 use Rattle.std.proofs.lemmas.Bool.Decides.{nat_tests}
@@ -38,7 +38,7 @@ use Rattle.object_uploads.specs.declared.rows.SealedRows.{SealedRows}
 use Rattle.object_uploads.specs.declared.rows.SealedRows.TheVariants as sealed_rows
 use Rattle.object_uploads.specs.State.{SealedState, UploadsState}
 use Rattle.object_uploads.specs.Queue.{HasBytesAt, is_checkpoint}
-use Rattle.object_uploads.specs.Order.{IsOpenFirst, AreOpen, AreWaiting, PlaceFits, IsUploads}
+use Rattle.object_uploads.specs.Order.{IsOpenFirst, AreOpen, AreWaiting, IsUploads}
 use Rattle.object_uploads.specs.Changes.{index_of}
 use Rattle.object_uploads.specs.Stream.{AreRows, AreCopyRows, HoldsContent, AreSealedOf, AreOfStream}
 use Rattle.object_uploads.specs.Laws.{acknowledged_in, IsLeftOfUploads, RecoveryFindsStream}
@@ -328,15 +328,14 @@ not_so : (test : Bool) → (test ≡ true → ⊥) → test ≡ false
 not_so true none = absurd (none refl)
 not_so false none = refl
 
--- a place is of the volume's own object, and that of its owner
-owned_by : (sectors last k : ℕ) (place : Option ObjectPlace) (owner : Owner) → IfSome place (PlaceFits sectors last k)
-    → place_owner place ≡ Some owner
-    → (p : ObjectPlace) × (place ≡ Some p) × (p.level ≡ 0) × (owner.level ≡ 0) × (p.number ≡ owner.number)
-owned_by sectors last k None owner fits is = absurd cc
-owned_by sectors last k (Some place) owner fits is =
+-- a place is in the object of its owner
+owned_by : (place : Option ObjectPlace) (owner : Owner) → place_owner place ≡ Some owner
+    → (p : ObjectPlace) × (place ≡ Some p) × (p.level ≡ owner.level) × (p.number ≡ owner.number)
+owned_by None owner is = absurd cc
+owned_by (Some place) owner is =
     let level : place.level ≡ owner.level = cc in
     let number : place.number ≡ owner.number = cc in
-    (place, refl, fits.own, sym level ∙ fits.own, number)
+    (place, refl, level, number)
 
 module _ (volume : Expected) (data_at : ℕ → ℕ) (stream : Stream) (uploads : UploadsState) (objects : Objects)
     (checkpoint landed : Numbers) (number : ℕ)
@@ -501,16 +500,23 @@ module _ (volume : Expected) (data_at : ℕ → ℕ) (stream : Stream) (uploads 
       (subst (λ e. Replays objects volume start tail.end (owners stream start) (length found_objects) e (owners stream number))
       kept.1 replay)
 
+  -- an owner up to the frontier is one that the stream opens with, or has an object that is known
+  landed_before : (k : ℕ) (owner : Owner) → owners stream frontier k ≡ Some owner → (stream.opening k ≡ Some owner)
+      ⊎ ((owner.level ≡ 0) × IsTrue (landed owner.number))
+  landed_before k owner before = elim (owns_by_number stream frontier k owner before) [
+    | inl opened ↦ inl opened
+    | inr own ↦
+        let at = owned_by (settled_at uploads.queue.maps k) owner (are.settled k ∙ before) in
+        let known = sector_is_known uploads.uuid uploads.queue k at.0 order.known at.1 (at.2 ∙ own.0) in
+        inr (own.0, subst (λ n. IsTrue (landed n)) at.3 (left.known at.0.number known))
+  ]
+
   landed_owner : (k : ℕ) (owner : Owner) → owners stream number k ≡ Some owner → (stream.opening k ≡ Some owner)
       ⊎ ((owner.level ≡ 0) × IsTrue (landed owner.number))
   landed_owner k owner is =
       let kept = keeps_owners stream frontier number are.valid are.from (omega (arith, start_from, within_stream)) at_least in
       elim (owns_by_number (from_object frontier stream) number k owner (kept.0 k ∙ is)) [
-        | inl before ↦
-            let at = owned_by uploads.sectors frontier k (settled_at uploads.queue.maps k) owner (order.places k)
-            (are.settled k ∙ before) in
-            let known = sector_is_known uploads.uuid uploads.queue k at.0 order.known at.1 at.2 in
-            inr (at.3, subst (λ n. IsTrue (landed n)) at.4 (left.known at.0.number known))
+        | inl before ↦ landed_before k owner before
         | inr later ↦ inr (later.0, has_landed owner.number later.1 later.2)
       ]
 

@@ -347,7 +347,7 @@ kept_by : (old new : UploadsState) → IsSameButObjects old new
     → ((k : ℕ) (p : ObjectPlace) → settled_at old.queue.maps k ≡ Some p → p.level ≡ 0 → Stays old.queue new.queue p.number)
     → KeepsImage old.queue new.queue
 kept_by old new rest stays = record {
-  image = image_stays old.queue new.queue (ap (λ (m : MapState ObjectPlace). m.rows) rest.settled) stays;
+  image = image_stays old.queue new.queue (ap (λ (m : MapState ObjectPlace). m.rows) rest.settled) rest.inherited stays;
   receipts = λ told. rw rest.sealed told;
   copies = λ tells image copied.
       are_copied_same tells image old.queue new.queue rest.frontier (ap (λ (m : MapState ObjectPlace). m.rows) rest.settled)

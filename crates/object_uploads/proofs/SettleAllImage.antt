@@ -17,7 +17,7 @@ use Rattle.object_stream.specs.Stream.{Owners, Stream, after_object, EndsFollow}
 use Rattle.object_stream.proofs.StreamLemmas.{goes_on}
 use Rattle.object_stream.proofs.ValueLemmas.{length-after}
 use Rattle.volume_maps.specs.Maps.{MapsState}
-use Rattle.object_uploads.specs.State.{SealedState, NumberedReceipt}
+use Rattle.object_uploads.specs.State.{SealedState, NumberedReceipt, InheritedObject}
 use Rattle.object_uploads.specs.Queue.{receipts_of, end_of_last, SettlesObjects}
 use Rattle.object_uploads.specs.Stream.{AreSealedOf}
 use Rattle.object_uploads.specs.Image.{HasImage, IsReceiptFor}
@@ -48,7 +48,7 @@ receipts_with number receipts sealed more receipt is =
     ++ receipts_of (number + 1) more)) is
     ∙ sym (append_assoc receipts (own ∷ []) (receipts_of (number + 1) more))
 
-module _ (volume : Expected) (stream : Stream) where
+module _ (inherited : List InheritedObject) (volume : Expected) (stream : Stream) where
   -- no sealed object ends before the one that it comes after
   ends_later : (count number end : ℕ) (entries : List Entry) (owned : Owners) (list : List StreamObject)
       (sealed : List SealedState) → AreSealedOf stream volume number end entries owned list sealed → EndsFollow end list
@@ -70,9 +70,9 @@ module _ (volume : Expected) (stream : Stream) where
       → AllByRecursion IsTold sealed → All (Tells tells) (receipts ++ receipts_of number (take count sealed))
       → AllByRecursion (CopiedOf tells image number old) sealed → count ≤ length sealed
       → All (EndsBy (length image)) (take (end_of_last end (take count sealed) - end) entries)
-      → SettlesObjects number (take count sealed) old new → HasImage image (holding receipts old)
+      → SettlesObjects number (take count sealed) old new → HasImage image (holding inherited receipts old)
       → HasImage (after image (take (end_of_last end (take count sealed) - end) entries))
-      (holding (receipts ++ receipts_of number (take count sealed)) new)
+      (holding inherited (receipts ++ receipts_of number (take count sealed)) new)
       × AllByRecursion
       (CopiedOf tells (after image (take (end_of_last end (take count sealed) - end) entries)) (number + count) new)
       (drop count sealed)
@@ -116,10 +116,12 @@ module _ (volume : Expected) (stream : Stream) where
       let tells_own : Tells tells own =
       All-head (Tells tells) own [] (all_back (Tells tells) receipts (own ∷ [])
       (all_front (Tells tells) with_own (receipts_of (number + 1) (take count sealed)) all_alike)) in
-      let one = has_one volume stream object.content first.rows number end (length first.bytes) object.end first.end entries owned
+      let one = has_one inherited volume stream object.content first.rows number end (length first.bytes) object.end first.end
+      entries owned
       first.bytes receipts r.0 old settles.0 tells image known are.0.holds follow.0 for_it tells_own copied.0 part_ends
       settles.1 has in
-      let was = was_there volume stream object.content first.rows number end (length first.bytes) object.end first.end entries
+      let was = was_there inherited volume stream object.content first.rows number end (length first.bytes) object.end first.end
+      entries
       owned first.bytes old settles.0 image are.0.holds follow.0 part_ends settles.1 in
       let still = copies_stay tells number (number + 1) old settles.0 image (after image part) (omega arith) was sealed
       copied.1 in

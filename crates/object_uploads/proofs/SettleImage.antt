@@ -39,7 +39,7 @@ use Rattle.volume_maps.specs.Laws.{IsPlacedBy, is_in_source}
 use Rattle.volume_maps.proofs.SettleLemmas.{settles_places}
 use Rattle.object_uploads.specs.declared.rows.SealedRows.{SealedRows}
 use Rattle.object_uploads.specs.declared.rows.SealedRows.TheVariants as sealed_rows
-use Rattle.object_uploads.specs.State.{SealedState, NumberedReceipt, QueueState}
+use Rattle.object_uploads.specs.State.{SealedState, NumberedReceipt, InheritedObject, QueueState}
 use Rattle.object_uploads.specs.Queue.{front_of, payload_of, copy_front_of, copy_payload_of, SettlesObject, SettlesCopy}
 use Rattle.object_uploads.specs.Queue.{SettlesCheckpoint, SettlesSealed}
 use Rattle.object_stream.specs.Stream.{place_in_copy}
@@ -62,13 +62,14 @@ abbrev pub IsTold : SealedState → Type 0
 IsTold sealed = IfSome sealed.receipt (IsReceiptFor sealed.bytes)
 
 -- what the image depends on of a queue
-abbrev pub holding : List NumberedReceipt → MapsState → QueueState
-holding receipts maps = record {
+abbrev pub holding : List InheritedObject → List NumberedReceipt → MapsState → QueueState
+holding inherited receipts maps = record {
   frontier = 0;
   end = 0;
   sealed = [];
   receipts = receipts;
   removal = None;
+  inherited = inherited;
   maps = maps;
   places = 0;
 }
@@ -133,21 +134,22 @@ tells_sector (Some told) bytes sector at tells has = rw tells has
 some_sector : (a b : List ℕ) → Some a ≡ Some b → a ≡ b
 some_sector a b same = ap (sector_or a) same
 
-module _ (number front : ℕ) (receipts : List NumberedReceipt) (receipt : ReceiptState) (old new : MapsState)
+module _ (inherited : List InheritedObject) (number front : ℕ) (receipts : List NumberedReceipt) (receipt : ReceiptState)
+    (old new : MapsState)
     (known : AreUpTo number receipts old.objects.rows)
     (added : IsAddedTo (number + 1) front receipt receipts old.objects.rows (with_next (number + 1) receipt receipts)
     new.objects.rows) where
   abbrev before : QueueState
-  before = holding receipts old
+  before = holding inherited receipts old
 
   abbrev now : QueueState
-  now = holding (with_next (number + 1) receipt receipts) new
+  now = holding inherited (with_next (number + 1) receipt receipts) new
 
   stays_held : (place : Option ObjectPlace) (sector : List ℕ) → HoldsSector before place sector → HoldsSector now place sector
   stays_held place sector holds =
       still_holds before now place sector (λ p at own.
       still_stored (number + 1) front receipt receipts (with_next (number + 1) receipt receipts) old.objects.rows
-      new.objects.rows added p.number) holds
+      new.objects.rows added p.number) refl holds
 
   -- it has a sector that its receipt gives
   own_holds : (at : ℕ) (sector : List ℕ) → 512 * (front + at + 1) ≤ receipt.size
@@ -156,7 +158,7 @@ module _ (number front : ℕ) (receipts : List NumberedReceipt) (receipt : Recei
   own_holds at sector inside told =
       let stored = next_stored (number + 1) front receipt receipts (with_next (number + 1) receipt receipts) old.objects.rows
       new.objects.rows added number (omega arith) known in
-      (refl, subst (λ o. GivesSector o at sector) (sym stored) (inside, told))
+      subst (λ o. GivesSector o at sector) (sym stored) (inside, told)
 
   module _ (bytes payload : List ℕ) (tells : IsReceiptFor bytes receipt) (payload_is : payload ≡ drop (512 * front) bytes) where
     put_holds : (at : ℕ) (sector : List ℕ) → length sector ≡ 512 → sector_of at payload ≡ sector
@@ -221,7 +223,7 @@ told_sector : (told : Option (List ℕ)) (bytes sector : List ℕ) (at : ℕ) �
 told_sector None bytes sector at tells has = tt
 told_sector (Some told) bytes sector at tells has = rw tells (has refl)
 
-module _ (volume : Expected) where
+module _ (inherited : List InheritedObject) (volume : Expected) where
   -- what entries make of a sector
   sector_made : (part : List Entry) (image : Image) (k : ℕ) (sector : List ℕ) → All (EndsBy (length image)) part
       → slice_get (after image part) k ≡ Some sector
@@ -245,8 +247,8 @@ module _ (volume : Expected) where
       → AreUpTo number receipts old.objects.rows
       → HoldsEntries (expected_at volume (number + 1) end) part last bytes items
       → IsReceiptFor bytes receipt → All (EndsBy (length image)) part
-      → SettlesObject (number + 1) size items settled_end old new → HasImage image (holding receipts old)
-      → HasImage (after image part) (holding (with_next (number + 1) receipt receipts) new)
+      → SettlesObject (number + 1) size items settled_end old new → HasImage image (holding inherited receipts old)
+      → HasImage (after image part) (holding inherited (with_next (number + 1) receipt receipts) new)
   has_data number end size last part bytes items settled_end receipts receipt old new image known is tells ends settles has k
       sector at =
       let made = sector_made part image k sector ends at in
@@ -257,7 +259,7 @@ module _ (volume : Expected) where
       let added = added_data (number + 1) (payload_of size items) (front_of items) receipt receipts old.objects new.objects
       settles.objects in
       rw (settles.settled k) (
-      changed_holds number (front_of items) receipts receipt old new known added
+      changed_holds inherited number (front_of items) receipts receipt old new known added
       bytes is.payload tells payload (change_at part k) (settled_at old k)
       (settled_by (number + 1) items (settled_at old k) k) (slice_get image k) sector
       (puts_whole part k) by (λ s held. has k s held) made
@@ -269,7 +271,7 @@ module _ (volume : Expected) where
       (known : AreUpTo number receipts old.objects.rows)
       (is : HoldsCopy (expected_at volume (number + 1) end) pairs last bytes items) (tells : IsReceiptFor bytes receipt)
       (copied : IsTrue (is_some receipt.told) → HasLiveSectors image old bytes items)
-      (settles : SettlesCopy (number + 1) size items old new) (has : HasImage image (holding receipts old)) (k : ℕ)
+      (settles : SettlesCopy (number + 1) size items old new) (has : HasImage image (holding inherited receipts old)) (k : ℕ)
       (sector : List ℕ) (at : slice_get image k ≡ Some sector) where
     abbrev copy_front : ℕ
     copy_front = copy_front_of items
@@ -286,7 +288,7 @@ module _ (volume : Expected) where
     placed = place_of_copy volume (number + 1) end pairs last bytes items is k (settled_at old k)
 
     copied_by : (test : Bool) → is_in_source (source_in pairs k) (settled_at old k) ≡ test
-        → HoldsSector (holding (with_next (number + 1) receipt receipts) new)
+        → HoldsSector (holding inherited (with_next (number + 1) receipt receipts) new)
         (cond test (Some (record { level = 0; number = number + 1; sector = place })) (settled_at old k)) sector
     copied_by true live =
         let source = source_of (source_in pairs k) (settled_at old k) live in
@@ -294,27 +296,28 @@ module _ (volume : Expected) where
         let front = copy_front_is is.header is.rows_of items volume.sectors is.rows_are is.parts.is_object.rows_are in
         let inside : 512 * (copy_front + place + 1) ≤ receipt.size =
         omega (arith, tells.size, is.parts.is_object.head.has_size, front, placed.inside some) in
-        own_holds number copy_front receipts receipt old new known copy_added place sector inside
+        own_holds inherited number copy_front receipts receipt old new known copy_added place sector inside
         (told_sector receipt.told bytes sector (copy_front + place) tells.told (λ told.
         sym (payload_sector copy_front place bytes)
         ∙ some_sector (sector_of place (drop (512 * copy_front) bytes)) sector
         (sym (placed.copied (drop (512 * copy_front) bytes) some)
         ∙ copied told k source.0 sector (is.sources k ∙ source.1) source.2 at)))
     copied_by false live =
-        stays_held number copy_front receipts receipt old new known copy_added (settled_at old k) sector (has k sector at)
+        stays_held inherited number copy_front receipts receipt old new known copy_added (settled_at old k) sector
+        (has k sector at)
 
-    pub has_copy : HoldsSector (holding (with_next (number + 1) receipt receipts) new) (settled_at new k) sector
+    pub has_copy : HoldsSector (holding inherited (with_next (number + 1) receipt receipts) new) (settled_at new k) sector
     has_copy =
         rw (settles.settled k, placed.settled) (copied_by (is_in_source (source_in pairs k) (settled_at old k)) refl)
 
   -- a checkpoint changes no sector
   has_checkpoint : (number : ℕ) (receipts : List NumberedReceipt) (receipt : ReceiptState) (old new : MapsState)
-      (image : Image) → SettlesCheckpoint (number + 1) old new → HasImage image (holding receipts old)
-      → HasImage image (holding (with_next (number + 1) receipt receipts) new)
+      (image : Image) → SettlesCheckpoint (number + 1) old new → HasImage image (holding inherited receipts old)
+      → HasImage image (holding inherited (with_next (number + 1) receipt receipts) new)
   has_checkpoint number receipts receipt old new image settles has =
       let added = added_checkpoint (number + 1) receipt receipts old.objects new.objects settles.objects in
-      image_stays (holding receipts old) (holding (with_next (number + 1) receipt receipts) new)
-      (ap (λ (m : MapState ObjectPlace). m.rows) settles.settled) (λ k p at own.
+      image_stays (holding inherited receipts old) (holding inherited (with_next (number + 1) receipt receipts) new)
+      (ap (λ (m : MapState ObjectPlace). m.rows) settles.settled) refl (λ k p at own.
       still_stored (number + 1) 0 receipt receipts (with_next (number + 1) receipt receipts) old.objects.rows new.objects.rows
       added p.number) image has
 
@@ -326,8 +329,8 @@ module _ (volume : Expected) where
       → GoesTo content end last → IsReceiptFor bytes receipt → is_some receipt.told ≡ tells
       → IsCopiedIfCopy tells image number old bytes rows
       → All (EndsBy (length image)) (take (last - end) entries)
-      → SettlesSealed (number + 1) size rows settled_end old new → HasImage image (holding receipts old)
-      → HasImage (after image (take (last - end) entries)) (holding (with_next (number + 1) receipt receipts) new)
+      → SettlesSealed (number + 1) size rows settled_end old new → HasImage image (holding inherited receipts old)
+      → HasImage (after image (take (last - end) entries)) (holding inherited (with_next (number + 1) receipt receipts) new)
   has_one stream contents.Data (sealed_rows.Data list) number end size last settled_end entries owned bytes receipts receipt old
       new tells image known is goes for_it alike copied ends settles has =
       has_data number end size last (take (last - end) entries) bytes list.items settled_end receipts receipt old new image known

@@ -12,11 +12,12 @@ use Rattle.object_uploads.specs.Invariant.{IsKnown, TakesFromQueue}
 use Rattle.object_uploads.proofs.NamesKept.{IsNamed, named_without, name_of}
 use Rattle.object_uploads.proofs.UploadsKept.{whole, uploads_changed}
 
-module _ (uuid : List ℕ) (sectors : ℕ) (window : WindowState) (old new : QueueState) (number : ℕ) (receipt : ReceiptState)
-    (are : IsUploads (whole uuid sectors old window)) (taken : TakesFromQueue number receipt old new) where
-  pub uploads_without : IsKnown new → IsUploads (whole uuid sectors new window)
+module _ (uuid : List ℕ) (sectors ancestors : ℕ) (window : WindowState) (old new : QueueState) (number : ℕ)
+    (receipt : ReceiptState)
+    (are : IsUploads (whole uuid sectors ancestors old window)) (taken : TakesFromQueue number receipt old new) where
+  pub uploads_without : IsKnown new → IsUploads (whole uuid sectors ancestors new window)
   uploads_without known =
-      uploads_changed uuid sectors window old new are taken.rest known
+      uploads_changed uuid sectors ancestors window old new are taken.rest known
       (subst (All (IsNamed uuid)) (sym taken.receipts) (named_without uuid number old.receipts are.known.named))
 
   taken_name : receipt.name ≡ numbered_name uuid number
@@ -32,17 +33,21 @@ module _ (uuid : List ℕ) (sectors : ℕ) (window : WindowState) (old new : Que
       → IsRemovedNext old.removal old.maps.objects (Some receipt.name.number)
   removed_next next = subst (λ n. IsRemovedNext old.removal old.maps.objects (Some n)) (sym same_number) next
 
-  pub takes_removal : TakesRemoval receipt.name.number receipt (whole uuid sectors old window) (whole uuid sectors new window)
+  pub takes_removal : TakesRemoval receipt.name.number receipt (whole uuid sectors ancestors old window)
+      (whole uuid sectors ancestors new window)
   takes_removal =
-      subst (λ n. TakesRemoval n receipt (whole uuid sectors old window) (whole uuid sectors new window)) (sym same_number)
+      subst (λ n. TakesRemoval n receipt (whole uuid sectors ancestors old window) (whole uuid sectors ancestors new window))
+      (sym same_number)
       (record {
         rest = record {
           uuid = refl;
           sectors = refl;
+          ancestors = refl;
           window = refl;
           frontier = taken.rest.frontier;
           end = taken.rest.end;
           sealed = taken.rest.sealed;
+          inherited = taken.rest.inherited;
           settled = taken.rest.settled;
           log = taken.rest.log;
         };

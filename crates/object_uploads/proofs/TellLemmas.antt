@@ -6,10 +6,11 @@ use Rattle.std.specs.List.{All}
 use Rattle.std.specs.Option.{is_some}
 use Rattle.std.proofs.lemmas.List.Elements.{All-nil, All-cons, All-head, All-tail, All-weaker}
 use Rattle.lsvd_objstore.specs.Store.{ReceiptState}
-use Rattle.object_uploads.specs.State.{SealedState, NumberedReceipt}
+use Rattle.object_uploads.specs.State.{SealedState, NumberedReceipt, InheritedObject}
 use Rattle.object_uploads.specs.Queue.{with_at, with_receipt}
 use Rattle.object_uploads.specs.Removal.{without_receipt, with_receipt_of}
-use Rattle.object_uploads.specs.Receipts.{AllTell, AllSealedTell, IsStateOf, AreStates, AreSealedStates}
+use Rattle.object_uploads.specs.Receipts.{AllTell, AllInheritedTell, AllSealedTell, IsStateOf, AreStates, AreInheritedStates}
+use Rattle.object_uploads.specs.Receipts.{AreSealedStates}
 
 -- a receipt tells its bytes, or does not
 abbrev pub Tells : (tells : Bool) → NumberedReceipt → Type 0
@@ -74,6 +75,12 @@ module _ {R : Type 0} (state : R → ReceiptState) where
 
     pub all_tell : (receipts : List NumberedReceipt) → AreStates state receipts → AllTell tells receipts
     all_tell receipts are = All-weaker IsSeen (Tells tells) (λ given is. tells_one given.receipt is) receipts are
+
+    pub inherited_tell : (inherited : List InheritedObject) → AreInheritedStates state inherited
+        → AllInheritedTell tells inherited
+    inherited_tell inherited are =
+        All-weaker (λ (o : InheritedObject). IsStateOf state o.receipt) (λ (o : InheritedObject). is_some o.receipt.told ≡ tells)
+        (λ o is. tells_one o.receipt is) inherited are
 
     given_tells : (given : Option ReceiptState) → IfSome given (IsStateOf state)
         → IfSome given (λ (receipt : ReceiptState). is_some receipt.told ≡ tells)

@@ -206,20 +206,24 @@ unmapped_dropped number old new order rows checkpoint was n is =
 
 -- ---- a row of a checkpoint is entered
 
-and_false : (test : Bool) → test && false ≡ false
-and_false true = refl
-and_false false = refl
+in_other : (own : Bool) (number : ℕ) (place : ObjectPlace) → (place.level == 0) ≡ own
+    → (place.level ≡ 0 → place.number ≡ number → ⊥) → own && (place.number == number) ≡ false
+in_other true number place own other =
+    let apart = other (grind (arith, nat_tests)) in
+    let differ : (place.number == number) ≡ false = grind (arith, nat_tests) in
+    differ
+in_other false number place own other = refl
 
 -- where the places of another object are entered, the object has none
 mapped_elsewhere : (test : Bool) (number : ℕ) (place : ObjectPlace) (before : Option ObjectPlace)
-    → (place.number ≡ number → ⊥) → is_live number before ≡ false → is_live number (cond test (Some place) before) ≡ false
-mapped_elsewhere true number place before other none =
-    let differ : (place.number == number) ≡ false = grind (arith, nat_tests) in
-    rw differ (and_false (place.level == 0))
+    → (place.level ≡ 0 → place.number ≡ number → ⊥) → is_live number before ≡ false
+    → is_live number (cond test (Some place) before) ≡ false
+mapped_elsewhere true number place before other none = in_other (place.level == 0) number place refl other
 mapped_elsewhere false number place before other none = none
 
-pub unmapped_mapped : (lba sectors : ℕ) (place : ObjectPlace) (old new : MapsState) → MayGain place.number old.objects
-    → IsCounted old.settled.rows old.objects → HasSameObjects old.objects new.objects
+pub unmapped_mapped : (lba sectors : ℕ) (place : ObjectPlace) (old new : MapsState)
+    → (place.level ≡ 0 → MayGain place.number old.objects) → IsCounted old.settled.rows old.objects
+    → HasSameObjects old.objects new.objects
     → ((k : ℕ) → settled_at new k ≡ place_after_set object_on lba sectors place (settled_at old) k)
     → IsShortest object_on new.settled.rows → IsCounted new.settled.rows new.objects → UnmappedAreDead old → UnmappedAreDead new
 unmapped_mapped lba sectors place old new gains counted same settled shortest now was =
@@ -227,10 +231,11 @@ unmapped_mapped lba sectors place old new gains counted same settled shortest no
     same.rows ∙ ap (map but_live) (sym (append-nil old.objects.rows)) in
     kept_unmapped old new was same.checkpoint
     (unmapped_back [] old new (All-nil (λ (r : ObjectRow). r.is_unmapped ≡ false)) rows) (λ n dead.
-    let other : place.number ≡ n → ⊥ = λ is. (
-    let own : Some gains.0 ≡ Some dead.0 = sym gains.1 ∙ (ap (λ m. row_of m old.objects.rows) is ∙ dead.1) in
-    let same_row : gains.0 ≡ dead.0 = cc in
-    let unmapped : false ≡ true = sym gains.2 ∙ (ap (λ (r : ObjectRow). r.is_unmapped) same_row ∙ dead.2) in
+    let other : place.level ≡ 0 → place.number ≡ n → ⊥ = λ own is. (
+    let gain = gains own in
+    let one : Some gain.0 ≡ Some dead.0 = sym gain.1 ∙ (ap (λ m. row_of m old.objects.rows) is ∙ dead.1) in
+    let same_row : gain.0 ≡ dead.0 = cc in
+    let unmapped : false ≡ true = sym gain.2 ∙ (ap (λ (r : ObjectRow). r.is_unmapped) same_row ∙ dead.2) in
     absurd cc) in
     let none = none_live n new.settled.rows shortest (λ k. ap (is_live n) (settled k)
     ∙ mapped_elsewhere (is_within lba sectors k) n (object_on (k - lba) place) (settled_at old k) other

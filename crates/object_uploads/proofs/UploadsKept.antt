@@ -16,10 +16,10 @@ use Rattle.volume_maps.specs.declared.place.ObjectPlace.{ObjectPlace}
 use Rattle.volume_maps.specs.Maps.{MapsState, settled_at}
 use Rattle.volume_maps.specs.Live.{IsCounted, live_sectors}
 use Rattle.object_uploads.specs.declared.rows.SealedRows.{SealedRows}
-use Rattle.object_uploads.specs.State.{SealedState, QueueState, UploadsState}
+use Rattle.object_uploads.specs.State.{SealedState, InheritedObject, QueueState, UploadsState}
 use Rattle.object_uploads.specs.Queue.{with_at, just_sealed, with_spare, with_receipt, is_checkpoint, FitSealed}
 use Rattle.object_uploads.specs.Queue.{HasSamePlaces, IsSettledBy, IsNextSettled, FirstWaits, sealed_at}
-use Rattle.object_uploads.specs.Order.{AreOpen, AreKnown, IsUploads, IsDeadIn, PlacesFit, PlacesFitIn}
+use Rattle.object_uploads.specs.Order.{AreOpen, AreKnown, AreInherited, IsUploads, IsDeadIn, PlacesFit, PlacesFitIn}
 use Rattle.object_uploads.specs.Invariant.{IsOpenAt, IsKnown, KeepsAllButObjects, KeepsAllButFound}
 use Rattle.object_uploads.proofs.UnmappedRows.{unmapped_same}
 use Rattle.object_uploads.proofs.QueueLemmas.{length-with}
@@ -32,8 +32,14 @@ use Rattle.object_uploads.proofs.NamesKept.{named_pushed}
 use Rattle.object_uploads.proofs.PlacesKept.{all_fit, places_settled, sealed_fits, settled_is}
 
 -- the whole, of its parts
-abbrev pub whole : (uuid : List ℕ) (sectors : ℕ) → QueueState → WindowState → UploadsState
-whole uuid sectors queue window = record { uuid = uuid; sectors = sectors; queue = queue; window = window }
+abbrev pub whole : (uuid : List ℕ) (sectors ancestors : ℕ) → QueueState → WindowState → UploadsState
+whole uuid sectors ancestors queue window = record {
+  uuid = uuid;
+  sectors = sectors;
+  ancestors = ancestors;
+  queue = queue;
+  window = window;
+}
 
 -- ---- what is known
 
@@ -112,17 +118,18 @@ are_known_entered uuid old new known frontier receipts removal settled objects =
 }
 
 -- the same rows give the same places
-pub places_same : (sectors last : ℕ) (old new : MapsState) → new.settled.rows ≡ old.settled.rows
-    → PlacesFit sectors last old → PlacesFit sectors last new
-places_same sectors last old new rows places k =
+pub places_same : (sectors ancestors last : ℕ) (old new : MapsState) → new.settled.rows ≡ old.settled.rows
+    → PlacesFit sectors ancestors last old → PlacesFit sectors ancestors last new
+places_same sectors ancestors last old new rows places k =
     rw rows (places k)
 
 -- ---- calls that change neither the window nor the objects past the frontier
 
-pub uploads_kept : (uuid : List ℕ) (sectors : ℕ) (window : WindowState) (old new : QueueState)
-    → IsUploads (whole uuid sectors old window) → new.frontier ≡ old.frontier → new.sealed ≡ old.sealed
-    → AreKnown uuid new → PlacesFit sectors old.frontier new.maps → IsUploads (whole uuid sectors new window)
-uploads_kept uuid sectors window old new are frontier sealed known places = record {
+pub uploads_kept : (uuid : List ℕ) (sectors ancestors : ℕ) (window : WindowState) (old new : QueueState)
+    → IsUploads (whole uuid sectors ancestors old window) → new.frontier ≡ old.frontier → new.sealed ≡ old.sealed
+    → new.inherited ≡ old.inherited → AreKnown uuid new → PlacesFit sectors ancestors old.frontier new.maps
+    → IsUploads (whole uuid sectors ancestors new window)
+uploads_kept uuid sectors ancestors window old new are frontier sealed inherited known places = record {
   opened = rw (frontier, sealed) are.opened;
   last = rw (frontier, sealed) are.last;
   waits = rw sealed are.waits;
@@ -133,17 +140,20 @@ uploads_kept uuid sectors window old new are frontier sealed known places = reco
   begun = rw frontier are.begun;
   waiting = rw sealed are.waiting;
   places = rw frontier places;
+  ancestors = are.ancestors;
+  inherited = rw inherited are.inherited;
 }
 
 -- nothing changes but room
-pub uploads_same : (uuid : List ℕ) (sectors : ℕ) (window : WindowState) (old new : QueueState)
-    → IsUploads (whole uuid sectors old window) → new.frontier ≡ old.frontier → new.sealed ≡ old.sealed
-    → new.receipts ≡ old.receipts → new.removal ≡ old.removal → HasSamePlaces old.maps new.maps
-    → IsUploads (whole uuid sectors new window)
-uploads_same uuid sectors window old new are frontier sealed receipts removal same =
-    uploads_kept uuid sectors window old new are frontier sealed
+pub uploads_same : (uuid : List ℕ) (sectors ancestors : ℕ) (window : WindowState) (old new : QueueState)
+    → IsUploads (whole uuid sectors ancestors old window) → new.frontier ≡ old.frontier → new.sealed ≡ old.sealed
+    → new.receipts ≡ old.receipts → new.removal ≡ old.removal → new.inherited ≡ old.inherited
+    → HasSamePlaces old.maps new.maps
+    → IsUploads (whole uuid sectors ancestors new window)
+uploads_same uuid sectors ancestors window old new are frontier sealed receipts removal inherited same =
+    uploads_kept uuid sectors ancestors window old new are frontier sealed inherited
     (are_known_same uuid old new are.known frontier receipts removal same)
-    (places_same sectors old.frontier old.maps new.maps same.settled are.places)
+    (places_same sectors ancestors old.frontier old.maps new.maps same.settled are.places)
 
 -- ---- an object is sealed
 
@@ -153,12 +163,13 @@ fit_pushed : (sectors : ℕ) (list : List SealedState) (sealed : SealedState) �
 fit_pushed sectors [] sealed fit all = (fit, tt)
 fit_pushed sectors (first ∷ list) sealed fit all = (all.0, fit_pushed sectors list sealed fit all.1)
 
-pub uploads_sealed : (uuid : List ℕ) (sectors : ℕ) (window : WindowState) (old new : QueueState) (bytes : List ℕ)
-    (rows : SealedRows) (end : ℕ) → IsUploads (whole uuid sectors old window) → FitSealed sectors rows
+pub uploads_sealed : (uuid : List ℕ) (sectors ancestors : ℕ) (window : WindowState) (old new : QueueState) (bytes : List ℕ)
+    (rows : SealedRows) (end : ℕ) → IsUploads (whole uuid sectors ancestors old window) → FitSealed sectors rows
     → new.sealed ≡ old.sealed ++ just_sealed bytes rows end ∷ [] → new.frontier ≡ old.frontier
-    → new.receipts ≡ old.receipts → new.removal ≡ old.removal → HasSamePlaces old.maps new.maps
-    → IsUploads (whole uuid sectors new (entered (window.last + 1) (is_checkpoint rows) window))
-uploads_sealed uuid sectors window old new bytes rows end are fit list frontier receipts removal same =
+    → new.receipts ≡ old.receipts → new.removal ≡ old.removal → new.inherited ≡ old.inherited
+    → HasSamePlaces old.maps new.maps
+    → IsUploads (whole uuid sectors ancestors new (entered (window.last + 1) (is_checkpoint rows) window))
+uploads_sealed uuid sectors ancestors window old new bytes rows end are fit list frontier receipts removal inherited same =
     let sealed = just_sealed bytes rows end in
     let more : OpenObject =
     record { number = window.last + 1; is_checkpoint = is_checkpoint rows; is_started = false; was_started = false } in
@@ -175,15 +186,17 @@ uploads_sealed uuid sectors window old new bytes rows end are fit list frontier 
       known = are_known_same uuid old new are.known frontier receipts removal same;
       begun = rw frontier (begun_pushed (old.frontier + 1) (window.last + 1) (is_checkpoint rows) window.objects are.begun);
       waiting = rw list (waiting_pushed old.sealed sealed refl are.waiting);
-      places = rw frontier (places_same sectors old.frontier old.maps new.maps same.settled are.places);
+      places = rw frontier (places_same sectors ancestors old.frontier old.maps new.maps same.settled are.places);
+      ancestors = are.ancestors;
+      inherited = rw inherited are.inherited;
     }
 
 -- the places once all objects past the frontier are settled
-pub sealed_places_fit : (uuid : List ℕ) (sectors : ℕ) (window : WindowState) (queue : QueueState)
-    → IsUploads (whole uuid sectors queue window) → PlacesFitIn sectors window.last (sealed_at queue)
-sealed_places_fit uuid sectors window queue are k =
-    subst (λ last. PlacesFitIn sectors last (sealed_at queue)) are.last
-    (λ i. all_fit sectors queue.frontier i queue.sealed (settled_at queue.maps i) are.fit (are.places i)) k
+pub sealed_places_fit : (uuid : List ℕ) (sectors ancestors : ℕ) (window : WindowState) (queue : QueueState)
+    → IsUploads (whole uuid sectors ancestors queue window) → PlacesFitIn sectors ancestors window.last (sealed_at queue)
+sealed_places_fit uuid sectors ancestors window queue are k =
+    subst (λ last. PlacesFitIn sectors ancestors last (sealed_at queue)) are.last
+    (λ i. all_fit sectors ancestors queue.frontier i queue.sealed (settled_at queue.maps i) are.fit (are.places i)) k
 
 -- ---- a put begins, or fails
 
@@ -201,11 +214,11 @@ fit_changed sectors (suc index) change (sealed ∷ list) same all =
 abbrev pub queue_marked : QueueState → (index : ℕ) → (started : Bool) → QueueState
 queue_marked queue index started = record queue { sealed = with_at index (with_spare (not started)) queue.sealed }
 
-marked_by : (uuid : List ℕ) (sectors : ℕ) (window : WindowState) (queue : QueueState) (number index : ℕ)
-    (started has_spare : Bool) → IsUploads (whole uuid sectors queue window) → number ≡ queue.frontier + 1 + index
+marked_by : (uuid : List ℕ) (sectors ancestors : ℕ) (window : WindowState) (queue : QueueState) (number index : ℕ)
+    (started has_spare : Bool) → IsUploads (whole uuid sectors ancestors queue window) → number ≡ queue.frontier + 1 + index
     → IsOpenAt index queue.sealed has_spare → AreAtIfBegun (queue.frontier + 1) (marked number started window).objects
-    → IsUploads (whole uuid sectors (queue_marked queue index started) (marked number started window))
-marked_by uuid sectors window queue number index started has_spare are at opened begun = record {
+    → IsUploads (whole uuid sectors ancestors (queue_marked queue index started) (marked number started window))
+marked_by uuid sectors ancestors window queue number index started has_spare are at opened begun = record {
   opened = open_marked number started (queue.frontier + 1) index queue.sealed window.objects has_spare are.opened at opened;
   last = ap (λ n. queue.frontier + n) (length-with index (with_spare (not started)) queue.sealed) ∙ are.last;
   waits = waits_with index (with_spare (not started)) queue.sealed (λ s. refl) are.waits;
@@ -217,6 +230,8 @@ marked_by uuid sectors window queue number index started has_spare are at opened
   begun = begun;
   waiting = waiting_changed index (with_spare (not started)) queue.sealed (λ s. refl) (λ s. refl) are.waiting;
   places = are.places;
+  ancestors = are.ancestors;
+  inherited = are.inherited;
 }
 
 -- an object of a volume that is open, past the frontier
@@ -225,22 +240,25 @@ pub record IsOpenIn (queue : QueueState) (number index : ℕ) (has_spare : Bool)
   pub past : queue.frontier < number
   pub opened : IsOpenAt index queue.sealed has_spare
 
-pub uploads_taken : (uuid : List ℕ) (sectors : ℕ) (old_window window : WindowState) (old new : QueueState) (number index : ℕ)
-    → IsUploads (whole uuid sectors old old_window) → IsOpenIn old number index true
+pub uploads_taken : (uuid : List ℕ) (sectors ancestors : ℕ) (old_window window : WindowState) (old new : QueueState)
+    (number index : ℕ)
+    → IsUploads (whole uuid sectors ancestors old old_window) → IsOpenIn old number index true
     → new ≡ queue_marked old index true → lowest_ready old_window.objects ≡ Some number
-    → window ≡ marked number true old_window → IsUploads (whole uuid sectors new window)
-uploads_taken uuid sectors old_window window old new number index are in_ changed lowest now =
+    → window ≡ marked number true old_window → IsUploads (whole uuid sectors ancestors new window)
+uploads_taken uuid sectors ancestors old_window window old new number index are in_ changed lowest now =
     let begun = begun_taken old.frontier number old.sealed old_window.objects are.opened are.waits in_.past lowest are.begun in
-    rw (changed, now) (marked_by uuid sectors old_window old number index true true are (omega (arith, in_.index_is, in_.past))
+    rw (changed, now) (marked_by uuid sectors ancestors old_window old number index true true are
+    (omega (arith, in_.index_is, in_.past))
     in_.opened begun)
 
-pub uploads_failed : (uuid : List ℕ) (sectors : ℕ) (old_window window : WindowState) (old new : QueueState) (number index : ℕ)
-    → IsUploads (whole uuid sectors old old_window) → IsOpenIn old number index false
+pub uploads_failed : (uuid : List ℕ) (sectors ancestors : ℕ) (old_window window : WindowState) (old new : QueueState)
+    (number index : ℕ)
+    → IsUploads (whole uuid sectors ancestors old old_window) → IsOpenIn old number index false
     → new ≡ queue_marked old index false
-    → window ≡ marked number false old_window → IsUploads (whole uuid sectors new window)
-uploads_failed uuid sectors old_window window old new number index are in_ changed now =
+    → window ≡ marked number false old_window → IsUploads (whole uuid sectors ancestors new window)
+uploads_failed uuid sectors ancestors old_window window old new number index are in_ changed now =
     let begun = begun_failed (old.frontier + 1) number old_window.objects are.begun in
-    rw (changed, now) (marked_by uuid sectors old_window old number index false false are
+    rw (changed, now) (marked_by uuid sectors ancestors old_window old number index false false are
     (omega (arith, in_.index_is, in_.past)) in_.opened begun)
 
 -- ---- a put is done
@@ -256,14 +274,15 @@ fit_dropped sectors (suc count) (sealed ∷ list) all = fit_dropped sectors coun
 abbrev pub queue_given : QueueState → (index : ℕ) → ReceiptState → QueueState
 queue_given queue index receipt = record queue { sealed = with_at index (with_receipt receipt) queue.sealed }
 
-pub uploads_done : (uuid : List ℕ) (sectors : ℕ) (old_window window : WindowState) (old given new : QueueState)
+pub uploads_done : (uuid : List ℕ) (sectors ancestors : ℕ) (old_window window : WindowState) (old given new : QueueState)
     (number index count : ℕ) (receipt : ReceiptState)
-    → IsUploads (whole uuid sectors old old_window) → IsOpenIn old number index false
+    → IsUploads (whole uuid sectors ancestors old old_window) → IsOpenIn old number index false
     → receipt.name ≡ numbered_name uuid number → given ≡ queue_given old index receipt
     → IsSettledBy count given new → FirstWaits new.sealed → IsKnown new → was_started number old_window.objects ≡ true
     → window ≡ acknowledged number old_window
-    → IsUploads (whole uuid sectors new window)
-uploads_done uuid sectors old_window window old given new number index count receipt are in_ named changed settled waits known
+    → IsUploads (whole uuid sectors ancestors new window)
+uploads_done uuid sectors ancestors old_window window old given new number index count receipt are in_ named changed settled
+    waits known
     started now =
     let by : IsSettledBy count (queue_given old index receipt) new = subst (λ q. IsSettledBy count q new) changed settled in
     let list = with_at index (with_receipt receipt) old.sealed in
@@ -294,18 +313,21 @@ uploads_done uuid sectors old_window window old given new number index count rec
       waiting = rw by.sealed (waiting_done (old.frontier + 1) number index count old.sealed old_window.objects receipt
           are.opened
           at in_.opened started are.begun are.waiting (subst FirstWaits by.sealed waits));
-      places = rw by.frontier (places_settled sectors old.frontier count list old.maps new.maps by.within fit by.maps are.places);
+      places = rw by.frontier (places_settled sectors ancestors old.frontier count list old.maps new.maps by.within fit by.maps
+          are.places);
+      ancestors = are.ancestors;
+      inherited = rw by.inherited are.inherited;
     })
 
 -- ---- the next object is adopted
 
-pub uploads_adopted : (uuid : List ℕ) (sectors : ℕ) (old_window window : WindowState) (old new : QueueState)
+pub uploads_adopted : (uuid : List ℕ) (sectors ancestors : ℕ) (old_window window : WindowState) (old new : QueueState)
     (rows : SealedRows) (end : ℕ) (receipt : ReceiptState)
-    → IsUploads (whole uuid sectors old old_window) → FitSealed sectors rows
+    → IsUploads (whole uuid sectors ancestors old old_window) → FitSealed sectors rows
     → receipt.name ≡ numbered_name uuid (old.frontier + 1)
     → IsNextSettled rows end receipt old new → IsKnown new → window ≡ record { last = new.frontier; objects = [] }
-    → IsUploads (whole uuid sectors new window)
-uploads_adopted uuid sectors old_window window old new rows end receipt are fit named next known now =
+    → IsUploads (whole uuid sectors ancestors new window)
+uploads_adopted uuid sectors ancestors old_window window old new rows end receipt are fit named next known now =
     let none : length new.sealed ≡ 0 = ap length next.sealed in
     rw now (record {
       opened = rw next.sealed refl;
@@ -319,17 +341,26 @@ uploads_adopted uuid sectors old_window window old new rows end receipt are fit 
       begun = All-nil (IsAtIfBegun (new.frontier + 1));
       waiting = rw next.sealed tt;
       places = rw next.frontier (λ k.
-          rw (settled_is sectors (old.frontier + 1) receipt.size end rows old.maps new.maps next.maps k)
-          (sealed_fits sectors old.frontier k rows (settled_at old.maps k) fit (are.places k)));
+          rw (settled_is sectors ancestors (old.frontier + 1) receipt.size end rows old.maps new.maps next.maps k)
+          (sealed_fits sectors ancestors old.frontier k rows (settled_at old.maps k) fit (are.places k)));
+      ancestors = are.ancestors;
+      inherited = rw next.inherited are.inherited;
     })
 
 -- ---- where nothing is past the frontier or known up to it, uploads begin
 
-pub uploads_begin : (uuid : List ℕ) (sectors : ℕ) (queue : QueueState) (window : WindowState) → sectors ≤ 2147483648
-    → queue.sealed ≡ [] → queue.receipts ≡ [] → queue.removal ≡ None → queue.maps.settled.rows ≡ []
+none_inherited : (ancestors : ℕ) → AreInherited ancestors []
+none_inherited ancestors = record {
+  ascend = λ i j d low inside. absurd (omega arith);
+  levels = All-nil (λ (object : InheritedObject). (1 ≤ object.level) × (object.level ≤ ancestors));
+}
+
+pub uploads_begin : (uuid : List ℕ) (sectors ancestors : ℕ) (queue : QueueState) (window : WindowState)
+    → sectors ≤ 2147483648 → ancestors ≤ 15 → queue.sealed ≡ [] → queue.receipts ≡ [] → queue.removal ≡ None
+    → queue.inherited ≡ [] → queue.maps.settled.rows ≡ []
     → queue.maps.objects.rows ≡ [] → queue.maps.objects.checkpoint ≡ 0
-    → window ≡ record { last = queue.frontier; objects = [] } → IsUploads (whole uuid sectors queue window)
-uploads_begin uuid sectors queue window low sealed receipts removal settled objects checkpoint now =
+    → window ≡ record { last = queue.frontier; objects = [] } → IsUploads (whole uuid sectors ancestors queue window)
+uploads_begin uuid sectors ancestors queue window low few sealed receipts removal inherited settled objects checkpoint now =
     let none : length queue.sealed ≡ 0 = ap length sealed in
     rw now (record {
       opened = rw sealed refl;
@@ -358,6 +389,8 @@ uploads_begin uuid sectors queue window low sealed receipts removal settled obje
       begun = All-nil (IsAtIfBegun (queue.frontier + 1));
       waiting = rw sealed tt;
       places = λ k. rw settled tt;
+      ancestors = few;
+      inherited = rw inherited (none_inherited ancestors);
     })
 
 -- ---- the frontier
@@ -370,27 +403,32 @@ frontier_below uploads are =
 -- ---- pins and removals
 
 -- the receipts and the table of objects change
-pub uploads_changed : (uuid : List ℕ) (sectors : ℕ) (window : WindowState) (old new : QueueState)
-    → IsUploads (whole uuid sectors old window) → KeepsAllButObjects old new → IsKnown new → All (IsNamed uuid) new.receipts
-    → IsUploads (whole uuid sectors new window)
-uploads_changed uuid sectors window old new are rest known named =
-    uploads_kept uuid sectors window old new are rest.frontier rest.sealed (known_named uuid new known named)
-    (places_same sectors old.frontier old.maps new.maps (ap (λ (m : MapState ObjectPlace). m.rows) rest.settled) are.places)
+pub uploads_changed : (uuid : List ℕ) (sectors ancestors : ℕ) (window : WindowState) (old new : QueueState)
+    → IsUploads (whole uuid sectors ancestors old window) → KeepsAllButObjects old new → IsKnown new
+    → All (IsNamed uuid) new.receipts
+    → IsUploads (whole uuid sectors ancestors new window)
+uploads_changed uuid sectors ancestors window old new are rest known named =
+    uploads_kept uuid sectors ancestors window old new are rest.frontier rest.sealed rest.inherited
+    (known_named uuid new known named)
+    (places_same sectors ancestors old.frontier old.maps new.maps (ap (λ (m : MapState ObjectPlace). m.rows) rest.settled)
+    are.places)
 
 -- ---- what a mount finds
 
 -- the same places, and other objects
-pub uploads_found : (uuid : List ℕ) (sectors : ℕ) (window : WindowState) (old new : QueueState)
-    → IsUploads (whole uuid sectors old window) → KeepsAllButFound old new → IsKnown new → All (IsNamed uuid) new.receipts
-    → PlacesFit sectors old.frontier new.maps → IsUploads (whole uuid sectors new window)
-uploads_found uuid sectors window old new are rest known named places =
-    uploads_kept uuid sectors window old new are rest.frontier rest.sealed (known_named uuid new known named) places
+pub uploads_found : (uuid : List ℕ) (sectors ancestors : ℕ) (window : WindowState) (old new : QueueState)
+    → IsUploads (whole uuid sectors ancestors old window) → KeepsAllButFound old new → IsKnown new
+    → All (IsNamed uuid) new.receipts
+    → PlacesFit sectors ancestors old.frontier new.maps → IsUploads (whole uuid sectors ancestors new window)
+uploads_found uuid sectors ancestors window old new are rest known named places =
+    uploads_kept uuid sectors ancestors window old new are rest.frontier rest.sealed rest.inherited
+    (known_named uuid new known named) places
 
 -- nothing but room
-pub found_none : (uuid : List ℕ) (sectors : ℕ) (window : WindowState) (old new : QueueState)
-    → IsUploads (whole uuid sectors old window) → KeepsAllButFound old new → new.receipts ≡ old.receipts
+pub found_none : (uuid : List ℕ) (sectors ancestors : ℕ) (window : WindowState) (old new : QueueState)
+    → IsUploads (whole uuid sectors ancestors old window) → KeepsAllButFound old new → new.receipts ≡ old.receipts
     → new.maps.settled.rows ≡ old.maps.settled.rows → new.maps.objects.rows ≡ old.maps.objects.rows
-    → new.maps.objects.checkpoint ≡ old.maps.objects.checkpoint → IsUploads (whole uuid sectors new window)
-found_none uuid sectors window old new are rest receipts settled rows checkpoint =
-    uploads_same uuid sectors window old new are rest.frontier rest.sealed receipts rest.removal
+    → new.maps.objects.checkpoint ≡ old.maps.objects.checkpoint → IsUploads (whole uuid sectors ancestors new window)
+found_none uuid sectors ancestors window old new are rest receipts settled rows checkpoint =
+    uploads_same uuid sectors ancestors window old new are rest.frontier rest.sealed receipts rest.removal rest.inherited
     (record { settled = settled; log = rest.log; objects = rows; checkpoint = checkpoint })

@@ -20,12 +20,14 @@ pub record HasSameSettled (old new : QueueState) : Type 0 where
   pub end : new.end ≡ old.end
   pub receipts : new.receipts ≡ old.receipts
   pub removal : new.removal ≡ old.removal
+  pub inherited : new.inherited ≡ old.inherited
   pub places : HasSamePlaces old.maps new.maps
 
 -- an object with these bytes, these rows and this end was sealed under the next number
 pub record IsSealedNext (bytes : List ℕ) (rows : SealedRows) (end : ℕ) (old new : UploadsState) : Type 0 where
   pub uuid : new.uuid ≡ old.uuid
   pub sectors : new.sectors ≡ old.sectors
+  pub ancestors : new.ancestors ≡ old.ancestors
   pub sealed : new.queue.sealed ≡ old.queue.sealed ++ just_sealed bytes rows end ∷ []
   pub window : new.window ≡ entered (old.window.last + 1) (is_checkpoint rows) old.window
   pub settled : HasSameSettled old.queue new.queue
@@ -34,6 +36,7 @@ pub record IsSealedNext (bytes : List ℕ) (rows : SealedRows) (end : ℕ) (old 
 pub record IsNotSealed (old new : UploadsState) : Type 0 where
   pub uuid : new.uuid ≡ old.uuid
   pub sectors : new.sectors ≡ old.sectors
+  pub ancestors : new.ancestors ≡ old.ancestors
   pub sealed : new.queue.sealed ≡ old.queue.sealed
   pub window : new.window ≡ old.window
   pub settled : HasSameSettled old.queue new.queue
@@ -62,6 +65,7 @@ pub record IsOut (uploads : UploadsState) (number : ℕ) (bytes : List ℕ) : Ty
 pub record IsPutDone (number : ℕ) (receipt : ReceiptState) (old new : UploadsState) : Type 0 where
   pub uuid : new.uuid ≡ old.uuid
   pub sectors : new.sectors ≡ old.sectors
+  pub ancestors : new.ancestors ≡ old.ancestors
   pub window : new.window ≡ acknowledged number old.window
   pub count : ℕ
   pub settled : IsSettledBy count (record old.queue {
@@ -77,5 +81,6 @@ pub record IsPutDone (number : ℕ) (receipt : ReceiptState) (old new : UploadsS
 pub record IsAdopted (rows : SealedRows) (end : ℕ) (receipt : ReceiptState) (old new : UploadsState) : Type 0 where
   pub uuid : new.uuid ≡ old.uuid
   pub sectors : new.sectors ≡ old.sectors
+  pub ancestors : new.ancestors ≡ old.ancestors
   pub window : new.window ≡ record { last = old.window.last + 1; objects = [] }
   pub settled : IsNextSettled rows end receipt old.queue new.queue

@@ -22,13 +22,13 @@ pub record HoldsPlaces (bytes : List ℕ) (expected : Expected) (end : ℕ) (pla
   pub is_checkpoint : IsCheckpoint bytes expected end rows
   pub same : (k : ℕ) → option_map mapped_place (place_at stored_on rows k) ≡ places k
 
--- what is expected of the next object, of a volume without ancestors
+-- what is expected of the next object
 abbrev pub expected_next : UploadsState → Expected
 expected_next uploads = record {
   uuid = uploads.uuid;
   number = uploads.window.last + 1;
   sectors = uploads.sectors;
-  ancestors = 0;
+  ancestors = uploads.ancestors;
   end_before = Some (end_of_last uploads.queue.end uploads.queue.sealed);
 }
 

@@ -14,7 +14,7 @@ use Rattle.object_uploads.specs.declared.rows.SealedRows.{SealedRows}
 use Rattle.object_uploads.specs.declared.rows.SealedRows.TheVariants as sealed_rows
 use Rattle.object_uploads.specs.State.{SealedState, StoredObject, QueueState}
 use Rattle.object_uploads.specs.Queue.{copy_front_of, stored_at}
-use Rattle.object_uploads.specs.Receipts.{AllTell, AllSealedTell}
+use Rattle.object_uploads.specs.Receipts.{AllTell, AllInheritedTell, AllSealedTell}
 
 -- an object is in the store, a sector of its payload lies inside it, and where its receipt tells its bytes, they have this there
 abbrev pub GivesSector : Option StoredObject → (at : ℕ) → (sector : List ℕ) → Type 0
@@ -23,11 +23,11 @@ GivesSector (Some object) at sector =
     (512 * (object.front + at + 1) ≤ object.receipt.size)
     × IfSome object.receipt.told (λ bytes. sector_of (object.front + at) bytes ≡ sector)
 
--- A sector is held at a place: it is zeros where there is none, and else what the store gave for the place's object, which is the
--- volume's own, gives it there.
+-- A sector is held at a place: it is zeros where there is none, and else what the store gave for the place's object gives it
+-- there.
 abbrev pub HoldsSector : QueueState → Option ObjectPlace → (sector : List ℕ) → Type 0
 HoldsSector queue None sector = sector ≡ zero_sector
-HoldsSector queue (Some place) sector = (place.level ≡ 0) × GivesSector (stored_at queue place) place.sector sector
+HoldsSector queue (Some place) sector = GivesSector (stored_at queue place) place.sector sector
 
 -- each sector of an image is held where the objects' map has it
 abbrev pub HasImage : Image → QueueState → Type 0
@@ -45,9 +45,11 @@ HasOwnReceipts queue = AllByRecursion (λ (sealed : SealedState). IfSome sealed.
 
 -- ---- copies
 
--- each receipt that is known tells its bytes, and each of an object past the frontier does, or none of them does
+-- each receipt that is known tells its bytes, also each of an ancestor's object and of one past the frontier, or none of them
+-- does
 pub record TellAlike (tells : Bool) (queue : QueueState) : Type 0 where
   pub known : AllTell tells queue.receipts
+  pub inherited : AllInheritedTell tells queue.inherited
   pub sealed : AllSealedTell tells queue.sealed
 
 -- A copy's bytes have, of each of its sectors that the objects' map still has in its source, what an image has there.

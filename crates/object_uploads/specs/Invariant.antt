@@ -1,5 +1,5 @@
 -- For this crate's own clauses: what the queue always keeps, and an object that is open.
-use Rattle.std.specs.Prelude.{◌≡◌, ℕ, zero, suc, ◌≤◌, not, Bool, Option, None, Some, IfSome, List, [], ◌∷◌, length, map}
+use Rattle.std.specs.Prelude.{◌≡◌, ℕ, zero, suc, ◌≤◌, ◌<◌, ◌^◌, not, Bool, Option, None, Some, IfSome, List, [], ◌∷◌, length, map}
 use Rattle.std.specs.List.{All, AllByRecursion, filter}
 use Rattle.extent_map.specs.declared.extent.Extent.{Extent}
 use Rattle.extent_map.specs.Extents.{IsShortest}
@@ -69,6 +69,10 @@ stored_row row = record {
   place = record { level = row.place.level; number = row.place.number; place = row.place.sector };
 }
 
+-- the numbers of a row's place have the width of their fields
+abbrev pub IsPlaceWide : Extent StoredPlace → Type 0
+IsPlaceWide row = (row.place.level < 2 ^ 32) × (row.place.number < 2 ^ 64)
+
 -- all that is known of the objects up to the frontier, but that each receipt has its object's name
 pub record IsKnown (queue : QueueState) : Type 0 where
   pub order : Climbs 0 (numbers queue.maps.objects.rows)
@@ -90,6 +94,7 @@ pub record KeepsAllButObjects (old new : QueueState) : Type 0 where
   pub frontier : new.frontier ≡ old.frontier
   pub end : new.end ≡ old.end
   pub sealed : new.sealed ≡ old.sealed
+  pub inherited : new.inherited ≡ old.inherited
   pub settled : new.maps.settled ≡ old.maps.settled
   pub log : new.maps.log ≡ old.maps.log
 
@@ -99,6 +104,7 @@ pub record KeepsAllButFound (old new : QueueState) : Type 0 where
   pub end : new.end ≡ old.end
   pub sealed : new.sealed ≡ old.sealed
   pub removal : new.removal ≡ old.removal
+  pub inherited : new.inherited ≡ old.inherited
   pub log : new.maps.log.rows ≡ old.maps.log.rows
 
 -- the removal of the object of a number began: its receipt was taken

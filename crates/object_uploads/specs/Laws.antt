@@ -1,6 +1,6 @@
 -- Contract: what a recovery of the store finds of the objects of a volume.
-use Rattle.std.specs.Prelude.{◌≡◌, ℕ, ◌+◌, ◌-◌, ◌<◌, ◌≤◌, ◌⊎◌, ◌&&◌, not, nat_le, max, Bool, IsTrue, IsSome, Some, List, []}
-use Rattle.std.specs.Prelude.{◌∷◌, ◌++◌, length, take}
+use Rattle.std.specs.Prelude.{◌≡◌, ℕ, ◌+◌, ◌-◌, ◌<◌, ◌≤◌, ◌⊎◌, ◌&&◌, not, nat_le, max, Bool, IsTrue, IsSome, IfSome, Some, List}
+use Rattle.std.specs.Prelude.{[], ◌∷◌, ◌++◌, length, take}
 use Rattle.std.specs.List.{list_any}
 use Rattle.std.specs.Global.{Vec}
 use Rattle.lsvd_base.specs.declared.entry.Entry.{Entry}
@@ -26,7 +26,7 @@ use Rattle.object_uploads.specs.Changes.{index_of, IsSealedNext, with_job, IsPut
 use Rattle.object_uploads.specs.Checkpoint.{expected_next, HasSealedCheckpoint}
 use Rattle.object_uploads.specs.Removal.{IsSameButObjects}
 use Rattle.object_uploads.specs.Collection.{with_copied_all}
-use Rattle.object_uploads.specs.Stream.{HoldsEntries, HoldsCopy, AreOfStream}
+use Rattle.object_uploads.specs.Stream.{IsPlacedInherited, HoldsEntries, HoldsCopy, AreOfStream}
 
 -- the numbers that were acknowledged
 abbrev pub acknowledged_in : WindowState → Numbers
@@ -101,14 +101,24 @@ with_checkpoint stream = record stream {
   objects = stream.objects ++ record { content = Checkpoint; end = end_at stream (last_number stream) } ∷ [];
 }
 
--- where nothing is past a frontier, a stream begins that opens with the owners of the objects' map
+-- where nothing is past a frontier, a stream begins that opens with the owners of the objects' map, where those of ancestors have
+-- their places
 abbrev pub StreamBegins : Type 0
 StreamBegins =
     (volume : Expected) (data_at : ℕ → ℕ) (uploads : UploadsState) (number end : ℕ) (opening : Owners)
+    (inherited : ℕ → ℕ)
     → uploads.window ≡ record { last = number; objects = [] } → uploads.queue.frontier ≡ number → uploads.queue.end ≡ end
     → uploads.queue.sealed ≡ [] → uploads.queue.maps.log.rows ≡ []
     → IsUploads uploads → ((k : ℕ) → place_owner (settled_at uploads.queue.maps k) ≡ opening k)
-    → AreOfStream volume data_at (record { number = number; end = end; opening = opening; entries = []; objects = [] }) uploads
+    → ((k : ℕ) → IfSome (settled_at uploads.queue.maps k) (IsPlacedInherited inherited k))
+    → AreOfStream volume data_at (record {
+      number = number;
+      end = end;
+      opening = opening;
+      inherited = inherited;
+      entries = [];
+      objects = [];
+    }) uploads
 
 -- objects of a stream stay that while the next entry is entered
 abbrev pub EnteringKeepsStream : Type 0

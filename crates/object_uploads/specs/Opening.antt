@@ -8,17 +8,19 @@ use Rattle.volume_maps.specs.declared.place.ObjectPlace.{ObjectPlace}
 use Rattle.volume_maps.specs.Places.{object_on}
 use Rattle.volume_maps.specs.Maps.{settled_at}
 use Rattle.volume_maps.specs.Live.{HasSameObjects}
-use Rattle.object_uploads.specs.State.{UploadsState}
+use Rattle.object_uploads.specs.State.{InheritedObject, UploadsState}
 
 -- nothing but the receipts, the objects' map and the table changed, and room
 pub record IsSameButFound (old new : UploadsState) : Type 0 where
   pub uuid : new.uuid ≡ old.uuid
   pub sectors : new.sectors ≡ old.sectors
+  pub ancestors : new.ancestors ≡ old.ancestors
   pub window : new.window ≡ old.window
   pub frontier : new.queue.frontier ≡ old.queue.frontier
   pub end : new.queue.end ≡ old.queue.end
   pub sealed : new.queue.sealed ≡ old.queue.sealed
   pub removal : new.queue.removal ≡ old.queue.removal
+  pub inherited : new.queue.inherited ≡ old.queue.inherited
   pub log : new.queue.maps.log.rows ≡ old.queue.maps.log.rows
 
 -- an object was found in the store, with so many sectors of payload and so many before it
@@ -44,3 +46,9 @@ pub record HasBegun (receipt : ReceiptState) (old new : UploadsState) : Type 0 w
   pub settled : new.queue.maps.settled.rows ≡ old.queue.maps.settled.rows
   pub rows : new.queue.maps.objects.rows ≡ (acknowledged old.queue.frontier old.queue.maps.objects).rows
   pub checkpoint : new.queue.maps.objects.checkpoint ≡ old.queue.frontier
+
+-- the objects with one of an ancestor more, after those that were there
+abbrev pub with_inherited : InheritedObject → UploadsState → UploadsState
+with_inherited object uploads = record uploads {
+  queue = record uploads.queue { inherited = uploads.queue.inherited ++ object ∷ [] };
+}

@@ -1,7 +1,8 @@
 -- Contract: what the objects on their way to the store always keep.
-use Rattle.std.specs.Prelude.{◌≡◌, ℕ, ◌+◌, ◌<◌, ◌≤◌, ◌==◌, ◌&&◌, Bool, IsTrue, false, not, Option, Some, None, IsSome, IfSome}
+use Rattle.std.specs.Prelude.{◌≡◌, ℕ, ◌+◌, ◌<◌, ◌≤◌, ◌==◌, ◌&&◌, ◌⊎◌, Bool, IsTrue, false, not, Option, Some, None, IsSome}
+use Rattle.std.specs.Prelude.{IfSome}
 use Rattle.std.specs.Prelude.{List, [], ◌∷◌, length, map}
-use Rattle.std.specs.List.{All, AllByRecursion, filter}
+use Rattle.std.specs.List.{All, AllByRecursion, AllPairs, filter}
 use Rattle.extent_map.specs.Extents.{IsShortest}
 use Rattle.lsvd_names.specs.Names.{numbered_name}
 use Rattle.lsvd_objstore.specs.Store.{ReceiptState}
@@ -14,7 +15,7 @@ use Rattle.volume_maps.specs.declared.place.ObjectPlace.{ObjectPlace}
 use Rattle.volume_maps.specs.Places.{object_on}
 use Rattle.volume_maps.specs.Maps.{MapsState, settled_at}
 use Rattle.volume_maps.specs.Live.{IsCounted}
-use Rattle.object_uploads.specs.State.{SealedState, NumberedReceipt, QueueState, UploadsState}
+use Rattle.object_uploads.specs.State.{SealedState, NumberedReceipt, InheritedObject, QueueState, UploadsState}
 use Rattle.object_uploads.specs.Queue.{FirstWaits, FitSealed, is_checkpoint, receipt_in}
 
 -- ---- the objects past the frontier
@@ -96,28 +97,50 @@ pub record AreKnown (uuid : List ℕ) (queue : QueueState) : Type 0 where
   pub counted : IsCounted queue.maps.settled.rows queue.maps.objects
   pub shortest : IsShortest object_on queue.maps.settled.rows
 
+-- ---- the objects of ancestors
+
+-- a number of a level comes after an object of an ancestor: its level is greater, or else its number
+abbrev pub IsBefore : InheritedObject → (level number : ℕ) → Type 0
+IsBefore earlier level number =
+    (earlier.level < level) ⊎ ((earlier.level ≡ level) × (earlier.number < number))
+
+-- so it does after each of some
+abbrev pub ComesLast : (level number : ℕ) → List InheritedObject → Type 0
+ComesLast level number inherited = All (λ (earlier : InheritedObject). IsBefore earlier level number) inherited
+
+-- each of some objects of ancestors comes after all before it
+abbrev pub AreAscending : List InheritedObject → Type 0
+AreAscending inherited =
+    AllPairs (λ (earlier later : InheritedObject). IsBefore earlier later.level later.number) inherited
+
+-- and each is of one of so many ancestors
+pub record AreInherited (ancestors : ℕ) (inherited : List InheritedObject) : Type 0 where
+  pub ascend : AreAscending inherited
+  pub levels : All (λ (object : InheritedObject). (1 ≤ object.level) × (object.level ≤ ancestors)) inherited
+
 -- ---- places
 
--- A place that a sector may have in a volume of so many sectors: in the payload of one of the volume's own objects up to a
--- number, where a payload has 131,071 sectors at most.
-pub record PlaceFits (sectors last k : ℕ) (place : ObjectPlace) : Type 0 where
+-- A place that a sector may have in a volume of so many sectors, with so many ancestors: in the payload of one of the volume's
+-- own objects up to a number, or of an ancestor's object, where a payload has 131,071 sectors at most.
+pub record PlaceFits (sectors ancestors last k : ℕ) (place : ObjectPlace) : Type 0 where
   pub inside : k < sectors
-  pub own : place.level ≡ 0
-  pub number : place.number ≤ last
+  pub level : place.level ≤ ancestors
+  pub number : place.level ≡ 0 → place.number ≤ last
   pub payload : place.sector < 131071
 
 -- each of some places is one, and each of those in the objects' map
-abbrev pub PlacesFitIn : (sectors last : ℕ) → (ℕ → Option ObjectPlace) → Type 0
-PlacesFitIn sectors last places = (k : ℕ) → IfSome (places k) (PlaceFits sectors last k)
+abbrev pub PlacesFitIn : (sectors ancestors last : ℕ) → (ℕ → Option ObjectPlace) → Type 0
+PlacesFitIn sectors ancestors last places = (k : ℕ) → IfSome (places k) (PlaceFits sectors ancestors last k)
 
-abbrev pub PlacesFit : (sectors last : ℕ) → MapsState → Type 0
-PlacesFit sectors last maps = PlacesFitIn sectors last (settled_at maps)
+abbrev pub PlacesFit : (sectors ancestors last : ℕ) → MapsState → Type 0
+PlacesFit sectors ancestors last maps = PlacesFitIn sectors ancestors last (settled_at maps)
 
 -- ---- the whole
 
 -- The window has those of the sealed objects that are not acknowledged, up to the last of them, and the first of them waits. What
 -- the store gave for the acknowledged ones has their names, and the rows of all fit the volume. A checkpoint among them was begun
--- at most as the first, and is not acknowledged. The others are known, and the objects' map has places in these alone.
+-- at most as the first, and is not acknowledged. The others are known, and the objects' map has places in these and in objects of
+-- ancestors, of which there are 15 at most.
 pub record IsUploads (uploads : UploadsState) : Type 0 where
   pub opened : AreOpen (uploads.queue.frontier + 1) uploads.queue.sealed uploads.window.objects
   pub last : uploads.queue.frontier + length uploads.queue.sealed ≡ uploads.window.last
@@ -128,4 +151,6 @@ pub record IsUploads (uploads : UploadsState) : Type 0 where
   pub known : AreKnown uploads.uuid uploads.queue
   pub begun : BeginsAfterLower uploads.queue.frontier uploads.window
   pub waiting : AreWaiting uploads.queue.sealed
-  pub places : PlacesFit uploads.sectors uploads.queue.frontier uploads.queue.maps
+  pub places : PlacesFit uploads.sectors uploads.ancestors uploads.queue.frontier uploads.queue.maps
+  pub ancestors : uploads.ancestors ≤ 15
+  pub inherited : AreInherited uploads.ancestors uploads.queue.inherited

@@ -1,5 +1,6 @@
 -- Contract: what changes the objects of a volume in the order of their numbers.
-use Rattle.std.specs.Prelude.{◌≡◌, ℕ, ◌+◌, ◌-◌, ◌/◌, ◌≤◌, ◌==◌, zero, suc, Bool, true, false, Option, Some, None, IsSome, IfSome}
+use Rattle.std.specs.Prelude.{◌≡◌, ℕ, ◌+◌, ◌-◌, ◌/◌, ◌≤◌, ◌==◌, ◌&&◌, zero, suc, Bool, true, false, Option, Some, None}
+use Rattle.std.specs.Prelude.{IsSome, IfSome}
 use Rattle.std.specs.Prelude.{List, [], ◌∷◌, ◌++◌, length, map, find, take, drop, option_map, option_to_list, if◌then◌else◌}
 use Rattle.std.specs.List.{AllByRecursion, sum_by}
 use Rattle.std.specs.Option.{option_or}
@@ -17,7 +18,7 @@ use Rattle.volume_maps.specs.Maps.{MapsState, settled_at, logged_at, settled_by,
 use Rattle.volume_maps.specs.Live.{HasSameObjects}
 use Rattle.object_uploads.specs.declared.rows.SealedRows.{SealedRows}
 use Rattle.object_uploads.specs.declared.rows.SealedRows.TheVariants.{Data, Copy, Checkpoint}
-use Rattle.object_uploads.specs.State.{SealedState, NumberedReceipt, StoredObject, QueueState}
+use Rattle.object_uploads.specs.State.{SealedState, NumberedReceipt, StoredObject, InheritedObject, QueueState}
 
 -- the objects with the one at an index changed
 abbrev pub with_at : ℕ → (SealedState → SealedState) → List SealedState → List SealedState
@@ -150,6 +151,7 @@ pub record IsEntered (entry : Entry) (seq data_at : ℕ) (old new : QueueState) 
   pub end : new.end ≡ old.end
   pub receipts : new.receipts ≡ old.receipts
   pub removal : new.removal ≡ old.removal
+  pub inherited : new.inherited ≡ old.inherited
 
 -- ---- settling
 
@@ -192,12 +194,23 @@ stored_with None row = None
 stored_with (Some receipt) None = None
 stored_with (Some receipt) (Some row) = Some (record { receipt = receipt; front = row.front })
 
--- The object of an owner, where it is in the store. The volume's own objects are known up to the frontier, and no others.
+-- an object of an ancestor is that of an owner: it has its level and its number
+abbrev pub is_of_owner : Owner → InheritedObject → Bool
+is_of_owner owner object = (object.level == owner.level) && (object.number == owner.number)
+
+-- that of an owner, where a mount found it
+abbrev pub inherited_in : List InheritedObject → Owner → Option StoredObject
+inherited_in inherited owner =
+    option_map (λ (o : InheritedObject). record { receipt = o.receipt; front = o.front })
+    (find (is_of_owner owner) inherited)
+
+-- The object of an owner, where it is in the store. The volume's own objects are known up to the frontier, and those of its
+-- ancestors as a mount found them.
 abbrev pub stored_of : QueueState → Owner → Option StoredObject
 stored_of queue owner =
     if owner.level == 0
     then stored_with (receipt_in queue.receipts owner.number) (row_of owner.number queue.maps.objects.rows)
-    else None
+    else inherited_in queue.inherited owner
 
 -- the object that a place is in
 abbrev pub stored_at : QueueState → ObjectPlace → Option StoredObject
@@ -262,6 +275,7 @@ pub record IsSettledBy (count : ℕ) (old new : QueueState) : Type 0 where
   pub end : new.end ≡ end_of_last old.end (take count old.sealed)
   pub sealed : new.sealed ≡ drop count old.sealed
   pub removal : new.removal ≡ old.removal
+  pub inherited : new.inherited ≡ old.inherited
   pub maps : SettlesObjects old.frontier (take count old.sealed) old.maps new.maps
 
 -- The object of the next number, with these rows and this end, was settled, and the store gave this for it. None is past it.
@@ -271,6 +285,7 @@ pub record IsNextSettled (rows : SealedRows) (end : ℕ) (receipt : ReceiptState
   pub sealed : new.sealed ≡ []
   pub receipts : new.receipts ≡ old.receipts ++ record { number = old.frontier + 1; receipt = receipt } ∷ []
   pub removal : new.removal ≡ old.removal
+  pub inherited : new.inherited ≡ old.inherited
   pub maps : SettlesSealed (old.frontier + 1) receipt.size rows end old.maps new.maps
 
 -- an acknowledged object does not stand first

@@ -11,10 +11,12 @@ use Rattle.object_uploads.specs.Order.{IsUploads}
 pub record IsSameButObjects (old new : UploadsState) : Type 0 where
   pub uuid : new.uuid ≡ old.uuid
   pub sectors : new.sectors ≡ old.sectors
+  pub ancestors : new.ancestors ≡ old.ancestors
   pub window : new.window ≡ old.window
   pub frontier : new.queue.frontier ≡ old.queue.frontier
   pub end : new.queue.end ≡ old.queue.end
   pub sealed : new.queue.sealed ≡ old.queue.sealed
+  pub inherited : new.queue.inherited ≡ old.queue.inherited
   pub settled : new.queue.maps.settled ≡ old.queue.maps.settled
   pub log : new.queue.maps.log ≡ old.queue.maps.log
 

@@ -32,6 +32,14 @@ pub record StoredObject : Type 0 where
   pub receipt : ReceiptState
   pub front : ℕ
 
+-- an object of an ancestor that the map names, as a mount found it: what the store gave for it, and how many sectors it has
+-- before its payload
+pub record InheritedObject : Type 0 where
+  pub level : ℕ
+  pub number : ℕ
+  pub receipt : ReceiptState
+  pub front : ℕ
+
 -- the objects of a volume in the order of their numbers
 pub record QueueState : Type 0 where
   -- the frontier, and that object's end
@@ -43,6 +51,8 @@ pub record QueueState : Type 0 where
   pub receipts : List NumberedReceipt
   -- the object whose removal is out
   pub removal : Option ℕ
+  -- what a mount found of ancestors' objects, by level and then by number; it stays
+  pub inherited : List InheritedObject
   -- which object up to the frontier has each sector, where the log has those that later entries changed, and the objects up to
   -- the frontier
   pub maps : MapsState
@@ -53,5 +63,7 @@ pub record QueueState : Type 0 where
 pub record UploadsState : Type 0 where
   pub uuid : List ℕ
   pub sectors : ℕ
+  -- how many ancestors the volume has, 0 to 15
+  pub ancestors : ℕ
   pub queue : QueueState
   pub window : WindowState

@@ -67,13 +67,22 @@ pub record HoldsCopy (expected : Expected) (pairs : List CopiedSector) (end : �
 abbrev pub object_at : Stream → (number : ℕ) → Option StreamObject
 object_at stream number = slice_get stream.objects (number - (stream.number + 1))
 
--- A place is where an object of the stream has a sector in its payload. Of the objects that the stream opens with nothing is
--- said.
-abbrev pub IsPlacedIn : Stream → (k : ℕ) → ObjectPlace → Type 0
-IsPlacedIn stream k place =
+-- A place of the volume's own is where an object of the stream has a sector in its payload. Of the volume's own objects that the
+-- stream opens with nothing is said.
+abbrev pub IsPlacedOwn : Stream → (k : ℕ) → ObjectPlace → Type 0
+IsPlacedOwn stream k place =
     place.level ≡ 0 → stream.number < place.number
     → IfSome (object_at stream place.number)
     (λ object. place.sector ≡ place_in_object object.content (entries_in_object stream place.number) k)
+
+-- A place in an object of an ancestor is the one that a stream opens with, since no object of the volume's own makes another of
+-- these.
+abbrev pub IsPlacedInherited : (inherited : ℕ → ℕ) → (k : ℕ) → ObjectPlace → Type 0
+IsPlacedInherited inherited k place = 1 ≤ place.level → place.sector ≡ inherited k
+
+-- a place is where a stream has a sector, in an object of the volume's own or of an ancestor
+abbrev pub IsPlacedIn : Stream → (k : ℕ) → ObjectPlace → Type 0
+IsPlacedIn stream k place = IsPlacedOwn stream k place × IsPlacedInherited stream.inherited k place
 
 -- they are a checkpoint under the expected number, of these owners: each place is where its object has the sector
 pub record HoldsOwners (stream : Stream) (expected : Expected) (owned : Owners) (end : ℕ) (bytes : List ℕ) : Type 0 where

@@ -2,7 +2,7 @@ ghost use Rattle.std.specs.Prelude.{◌≡◌, ◌-◌, ◌^◌, ◌<◌, ◌≤
 ghost use Rattle.extent_map.specs.Extents.{place_at};
 ghost use Rattle.volume_maps.specs.Places.{object_on};
 ghost use Rattle.object_uploads.specs.Checkpoint.{HoldsPlaces};
-ghost use Rattle.object_uploads.specs.Invariant.{stored_row};
+ghost use Rattle.object_uploads.specs.Invariant.{stored_row, IsPlaceWide};
 ghost use Rattle.object_uploads.specs.Order.{PlacesFitIn};
 
 use ckpt_format::{CheckpointWriter, StoredPlace};
@@ -24,7 +24,7 @@ pub(crate) fn write_map(
     requires limit { expected.now.number < 2 ^ 64 }
     requires ends { expected.now.end_before ≡ Some end }
     requires sectors { expected.now.sectors ≤ 2147483648 }
-    requires fit { PlacesFitIn expected.now.sectors (expected.now.number - 1)
+    requires fit { PlacesFitIn expected.now.sectors expected.now.ancestors (expected.now.number - 1)
         (place_at object_on map.now.rows) }
     ensures { IfOk result (λ bytes. HoldsPlaces bytes expected.now end (place_at object_on map.now.rows)) }
 {
@@ -39,15 +39,25 @@ pub(crate) fn write_map(
 
 // A row of the map as one of a checkpoint.
 fn stored_row(row: &Extent<ObjectPlace>) -> Extent<StoredPlace>
-    ensures { result ≡ stored_row row.now }
+    ensures is { result ≡ stored_row row.now }
+    ensures wide { IsPlaceWide result }
 {
     Extent {
         lba: row.lba,
         sectors: row.sectors,
-        place: StoredPlace {
-            level: row.place.level,
-            number: row.place.number,
-            place: row.place.sector as u64,
-        },
+        place: stored_place(row.place.level, row.place.number, row.place.sector),
+    }
+}
+
+// A place of the map as one of a checkpoint. Its numbers are passed one by one, which shows their widths.
+fn stored_place(level: u32, number: u64, sector: u32) -> StoredPlace
+    ensures is { result ≡ record { level = level; number = number; place = sector } }
+    ensures level { level < 2 ^ 32 }
+    ensures number { number < 2 ^ 64 }
+{
+    StoredPlace {
+        level,
+        number,
+        place: sector as u64,
     }
 }

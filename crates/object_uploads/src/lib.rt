@@ -1,5 +1,6 @@
 //! The objects of a volume on their way to the store: those past the frontier with their jobs, those up to it
-//! with what the store gave for them, and the maps of what each has.
+//! with what the store gave for them, those of its ancestors that the map names, and the maps of what each
+//! has.
 //!
 //! Its contract: objects may be acknowledged in any order, and are settled in the order of their numbers; a
 //! copy takes then those of its sectors that the map still has in their sources.
@@ -13,6 +14,7 @@
 
 mod checkpoint;
 mod collection;
+mod inherited;
 mod job;
 mod laws;
 mod queue;

@@ -13,7 +13,7 @@ ghost use Rattle.volume_maps.specs.Maps.{settled_at};
 ghost use Rattle.volume_maps.specs.Live.{MayGain, HasSameObjects};
 ghost use Rattle.volume_maps.specs.Covered.{CoverRows, CoverCopyRows};
 ghost use Rattle.object_uploads.specs.Checkpoint.{HoldsPlaces};
-ghost use Rattle.object_uploads.specs.Order.{PlacesFitIn};
+ghost use Rattle.object_uploads.specs.Order.{PlacesFitIn, ComesLast};
 ghost use Rattle.object_uploads.specs.Removal.{IsRemovedNext, with_receipt_of};
 ghost use Rattle.object_uploads.specs.Invariant.{IsOpenAt, MapsCanTake, MapsCanCopy, MaySettle, CoverSealed};
 ghost use Rattle.object_uploads.specs.Invariant.{count_out, IsKnown};
@@ -32,6 +32,7 @@ ghost use Rattle.object_uploads.specs.Collection.{marked, marked_in};
 ghost use Rattle.object_uploads.specs.Image.{TellAlike};
 
 use crate::checkpoint::write_map;
+use crate::inherited::Inherited;
 use crate::receipts::Receipts;
 use crate::rows::SealedRows;
 use crate::sealed::Sealed;
@@ -58,6 +59,7 @@ pub(crate) struct Queue<R: Receipt> {
     receipts: Receipts<R>,
     // The object whose removal is out. There is room for its receipt, which may come back.
     removal: Option<u64>,
+    inherited: Inherited<R>,
     maps: VolumeMaps,
 }
 
@@ -78,6 +80,7 @@ impl<R: Receipt> Model for Queue<R> {
       sealed = q.sealed.items;
       receipts = q.receipts.list;
       removal = q.removal;
+      inherited = q.inherited;
       maps = q.maps;
       places = min
           (min (deque_capacity q.sealed - length q.sealed.items)
@@ -94,6 +97,7 @@ impl<R: Receipt> Model for Queue<R> {
           sealed = q.sealed.items;
           receipts = q.receipts.list;
           removal = q.removal;
+          inherited = q.inherited;
           maps = q.maps;
           places = 0;
         })
@@ -112,6 +116,7 @@ impl<R: Receipt> Queue<R> {
         ensures sealed { result.sealed ≡ [] }
         ensures receipts { result.receipts ≡ [] }
         ensures removal { result.removal ≡ None }
+        ensures inherited { result.inherited ≡ [] }
         ensures settled { result.maps.settled.rows ≡ [] }
         ensures log { result.maps.log.rows ≡ [] }
         ensures objects { result.maps.objects.rows ≡ [] }
@@ -124,6 +129,7 @@ impl<R: Receipt> Queue<R> {
             rows: 0,
             receipts: Receipts::new(alloc),
             removal: None,
+            inherited: Inherited::new(alloc),
             maps: VolumeMaps::new(alloc),
         }
     }
@@ -135,6 +141,7 @@ impl<R: Receipt> Queue<R> {
         ensures told { ((receipt : R) → IsSome (R.state receipt).told) → TellAlike true self.now }
     {
         self.receipts.tell_alike();
+        self.inherited.tell_alike();
     }
 
     // Appends a sealed object, with all the room that it needs later. The ranges have all sectors that its
@@ -159,6 +166,7 @@ impl<R: Receipt> Queue<R> {
         ensures end { self.new.end ≡ self.old.end }
         ensures receipts { self.new.receipts ≡ self.old.receipts }
         ensures removal { self.new.removal ≡ self.old.removal }
+        ensures inherited { self.new.inherited ≡ self.old.inherited }
         ensures places { HasSamePlaces self.old.maps self.new.maps }
         ensures log_kept { self.old.maps.log.spare ≤ self.new.maps.log.spare }
     {
@@ -224,6 +232,7 @@ impl<R: Receipt> Queue<R> {
         ensures receipts { self.new.receipts ≡ self.old.receipts
             ++ record { number = self.old.frontier + 1; receipt = R.state receipt } ∷ [] }
         ensures removal { self.new.removal ≡ self.old.removal }
+        ensures inherited { self.new.inherited ≡ self.old.inherited }
         ensures maps { SettlesSealed (self.old.frontier + 1) size rows.now end self.old.maps self.new.maps }
     {
         match rows {
@@ -244,6 +253,7 @@ impl<R: Receipt> Queue<R> {
         ensures receipts { self.new.receipts ≡ self.old.receipts
             ++ record { number = self.old.frontier + 1; receipt = R.state receipt } ∷ [] }
         ensures removal { self.new.removal ≡ self.old.removal }
+        ensures inherited { self.new.inherited ≡ self.old.inherited }
         ensures maps { SettlesCheckpoint (self.old.frontier + 1) self.old.maps self.new.maps }
     {
         self.frontier += 1;
@@ -265,7 +275,8 @@ impl<R: Receipt> Queue<R> {
         requires number { 0 < expected.now.number }
         requires limit { expected.now.number < 2 ^ 64 }
         requires sectors { expected.now.sectors ≤ 2147483648 }
-        requires fit { PlacesFitIn expected.now.sectors (expected.now.number - 1) (sealed_at self.now) }
+        requires fit { PlacesFitIn expected.now.sectors expected.now.ancestors (expected.now.number - 1)
+            (sealed_at self.now) }
         ensures { IfOk result (λ bytes. HoldsPlaces bytes expected.now end (sealed_at self.now)) }
     {
         if self.rows == 0 {
@@ -456,12 +467,31 @@ impl<R: Receipt> Queue<R> {
         Ok(())
     }
 
+    // Adds an object of an ancestor that was found in the store, which comes after those before it. The one
+    // error is out of memory; then nothing changes.
+    pub(crate) fn add_inherited(
+        &mut self,
+        level: u32,
+        number: u64,
+        front: u64,
+        receipt: R,
+    ) -> Result<(), AllocError>
+        requires { ComesLast level number self.old.inherited }
+        ensures added { OnOk result (self.new ≡ record self.old {
+          inherited = self.old.inherited
+              ++ record { level = level; number = number; receipt = R.state receipt; front = front } ∷ [];
+        }) }
+        ensures same { OnErr result (self.new ≡ self.old) }
+    {
+        self.inherited.push(level, number, front, receipt)
+    }
+
     // Enters a row of the checkpoint at the frontier into the objects' map. No object is past the frontier,
     // and no removal is out.
     pub(crate) fn map_found(&mut self, row: &Extent<ObjectPlace>) -> Result<(), AllocError>
         requires range { row.now.lba + row.now.sectors ≤ 2147483648 }
         requires places { row.now.place.sector + row.now.sectors < 2 ^ 32 }
-        requires known { MayGain row.now.place.number self.old.maps.objects }
+        requires known { row.now.place.level ≡ 0 → MayGain row.now.place.number self.old.maps.objects }
         requires none { self.old.sealed ≡ [] }
         requires no_removal { self.old.removal ≡ None }
         ensures rest { KeepsAllButFound self.old self.new }
@@ -523,6 +553,7 @@ impl<R: Receipt> Queue<R> {
         ensures receipts { self.new.receipts ≡ self.old.receipts
             ++ record { number = self.old.frontier + 1; receipt = R.state receipt } ∷ [] }
         ensures removal { self.new.removal ≡ self.old.removal }
+        ensures inherited { self.new.inherited ≡ self.old.inherited }
         ensures maps { SettlesObject (self.old.frontier + 1) size rows.now end self.old.maps self.new.maps }
     {
         let front = front_of(rows);
@@ -558,6 +589,7 @@ impl<R: Receipt> Queue<R> {
         ensures receipts { self.new.receipts ≡ self.old.receipts
             ++ record { number = self.old.frontier + 1; receipt = R.state receipt } ∷ [] }
         ensures removal { self.new.removal ≡ self.old.removal }
+        ensures inherited { self.new.inherited ≡ self.old.inherited }
         ensures maps { SettlesCopy (self.old.frontier + 1) size rows.now self.old.maps self.new.maps }
     {
         let front = copy_front_of(rows);
@@ -678,6 +710,7 @@ impl<R: Receipt> Queue<R> {
         ensures end { self.new.end ≡ self.old.end }
         ensures receipts { self.new.receipts ≡ self.old.receipts }
         ensures removal { self.new.removal ≡ self.old.removal }
+        ensures inherited { self.new.inherited ≡ self.old.inherited }
         ensures places { HasSamePlaces self.old.maps self.new.maps }
         ensures log_kept { self.old.maps.log.spare ≤ self.new.maps.log.spare }
     {
@@ -707,7 +740,7 @@ impl<R: Receipt> Queue<R> {
             (stored_at self.now place.now) }
     {
         if place.level != 0 {
-            return None;
+            return self.inherited.receipt(place.level, place.number);
         }
         self.receipts.get(place.number)
     }
@@ -716,6 +749,9 @@ impl<R: Receipt> Queue<R> {
     pub(crate) fn front(&self, place: &ObjectPlace) -> u64
         ensures { IfSome (stored_at self.now place.now) (λ object. result ≡ object.front) }
     {
+        if place.level != 0 {
+            return self.inherited.front(place.level, place.number);
+        }
         match self.maps.object(place.number) {
             Some(object) => object.front,
             None => 0,

@@ -16,14 +16,14 @@ ghost use Rattle.object_uploads.specs.declared.rows.SealedRows.TheVariants.{Data
 ghost use Rattle.object_uploads.specs.Queue.{FitObject, FitCopy, FitSealed, HasRoomForEntry};
 ghost use Rattle.object_uploads.specs.Queue.{HasRoomForObject, IsEntered, is_checkpoint, end_of_last};
 ghost use Rattle.object_uploads.specs.Queue.{stored_at, pins_of, newest_checkpoint};
-ghost use Rattle.object_uploads.specs.Order.{IsUploads};
+ghost use Rattle.object_uploads.specs.Order.{IsUploads, ComesLast};
 ghost use Rattle.object_uploads.specs.Invariant.{IsOpenAt, CoverSealed};
 ghost use Rattle.object_uploads.specs.Changes.{index_of, IsSealedNext, IsNotSealed, with_job, IsJobOf, IsOut};
 ghost use Rattle.object_uploads.specs.Changes.{IsPutDone, IsAdopted};
 ghost use Rattle.object_uploads.specs.Checkpoint.{expected_next, HasSealedCheckpoint};
 ghost use Rattle.object_uploads.specs.Removal.{IsRemovedNext, TakesRemoval, FinishesRemoval};
 ghost use Rattle.object_uploads.specs.Removal.{TakesBackRemoval, HasChangedRow};
-ghost use Rattle.object_uploads.specs.Opening.{HasFound, HasMapped, HasBegun};
+ghost use Rattle.object_uploads.specs.Opening.{HasFound, HasMapped, HasBegun, with_inherited};
 ghost use Rattle.object_uploads.specs.Collection.{ArePlacesInside, HasPlanned, with_copied_all};
 ghost use Rattle.object_uploads.specs.Image.{TellAlike};
 
@@ -52,6 +52,7 @@ use volume_maps::{ObjectPlace, VolumePlace, copied_ranges, put_ranges};
 pub struct Uploads<R: Receipt> {
     uuid: Uuid,
     sectors: u64,
+    ancestors: u32,
     queue: Queue<R>,
     window: Window,
 }
@@ -65,6 +66,7 @@ impl<R: Receipt> Model for Uploads<R> {
     ghost view = { λ u. record {
       uuid = u.uuid;
       sectors = u.sectors;
+      ancestors = u.ancestors;
       queue = u.queue;
       window = u.window;
     } };
@@ -72,24 +74,36 @@ impl<R: Receipt> Model for Uploads<R> {
     ghost invariant = { λ u. IsUploads (record {
       uuid = u.uuid;
       sectors = u.sectors;
+      ancestors = u.ancestors;
       queue = u.queue;
       window = u.window;
     }) };
 }
 
 impl<R: Receipt> Uploads<R> {
-    /// The volume with this uuid and this many sectors, 2^31 at most (a condition), whose objects up to this
-    /// number are acknowledged, and have the entries up to this end. It takes no memory.
-    pub fn new(alloc: Global, uuid: Uuid, sectors: u64, number: u64, end: u64) -> Uploads<R>
-        requires { sectors ≤ 2147483648 }
+    /// The volume with this uuid, this many sectors, 2^31 at most, and this many ancestors, 15 at most
+    /// (conditions), whose objects up to this number are acknowledged, and have the entries up to this end.
+    /// It takes no memory.
+    pub fn new(
+        alloc: Global,
+        uuid: Uuid,
+        sectors: u64,
+        ancestors: u32,
+        number: u64,
+        end: u64,
+    ) -> Uploads<R>
+        requires sectors { sectors ≤ 2147483648 }
+        requires ancestors { ancestors ≤ 15 }
         ensures uuid { result.uuid ≡ uuid }
         ensures sectors { result.sectors ≡ sectors }
+        ensures ancestors { result.ancestors ≡ ancestors }
         ensures window { result.window ≡ record { last = number; objects = [] } }
         ensures frontier { result.queue.frontier ≡ number }
         ensures end { result.queue.end ≡ end }
         ensures sealed { result.queue.sealed ≡ [] }
         ensures receipts { result.queue.receipts ≡ [] }
         ensures removal { result.queue.removal ≡ None }
+        ensures inherited { result.queue.inherited ≡ [] }
         ensures settled { result.queue.maps.settled.rows ≡ [] }
         ensures log { result.queue.maps.log.rows ≡ [] }
         ensures objects { result.queue.maps.objects.rows ≡ [] }
@@ -99,6 +113,7 @@ impl<R: Receipt> Uploads<R> {
         Uploads {
             uuid,
             sectors,
+            ancestors,
             queue: Queue::new(alloc, number, end),
             window: Window::new(number),
         }
@@ -403,15 +418,40 @@ impl<R: Receipt> Uploads<R> {
         self.queue.add_found(number, payload, front, receipt)
     }
 
+    /// Takes up an object of an ancestor that a mount found in the store, with so many sectors before its
+    /// payload. Its level is 1 to the count of ancestors, and it comes after all that were taken up, by level
+    /// and then by number (conditions). The one error is out of memory; then nothing changes.
+    pub fn add_inherited(
+        &mut self,
+        level: u32,
+        number: u64,
+        front: u64,
+        receipt: R,
+    ) -> Result<(), AllocError>
+        requires from { 1 ≤ level }
+        requires to { level ≤ self.old.ancestors }
+        requires last { ComesLast level number self.old.queue.inherited }
+        ensures found { OnOk result (self.new ≡ with_inherited (record {
+          level = level;
+          number = number;
+          receipt = R.state receipt;
+          front = front;
+        }) self.old) }
+        ensures same { OnErr result (self.new ≡ self.old) }
+    {
+        self.queue.add_inherited(level, number, front, receipt)
+    }
+
     /// Enters a row of the checkpoint at the frontier into the objects' map. It has sectors, all inside the
-    /// volume, and its places inside the greatest payload, in one of the volume's own objects that was taken
-    /// up; no object is past the frontier, no removal is out, and the checkpoint was not begun with
-    /// (conditions). The one error is out of memory; then nothing changes but room.
+    /// volume, and its places inside the greatest payload, in an object of an ancestor, or in one of the
+    /// volume's own that was taken up; no object is past the frontier, no removal is out, and the checkpoint
+    /// was not begun with (conditions). The one error is out of memory; then nothing changes but room.
     pub fn map_found(&mut self, row: &Extent<ObjectPlace>) -> Result<(), AllocError>
         requires inside { row.now.lba + row.now.sectors ≤ self.old.sectors }
         requires payload { row.now.place.sector + row.now.sectors ≤ 131071 }
-        requires own { row.now.place.level ≡ 0 }
-        requires known { MayGain row.now.place.number self.old.queue.maps.objects }
+        requires level { row.now.place.level ≤ self.old.ancestors }
+        requires known { row.now.place.level ≡ 0
+            → MayGain row.now.place.number self.old.queue.maps.objects }
         requires none { self.old.queue.sealed ≡ [] }
         requires no_removal { self.old.queue.removal ≡ None }
         ensures mapped { OnOk result (HasMapped row.now self.old self.new) }
@@ -550,6 +590,7 @@ impl<R: Receipt> Uploads<R> {
         ensures window { self.new.window ≡ self.old.window }
         ensures uuid { self.new.uuid ≡ self.old.uuid }
         ensures sectors { self.new.sectors ≡ self.old.sectors }
+        ensures ancestors { self.new.ancestors ≡ self.old.ancestors }
         ensures order { IsUploads self.old }
     {
         self.queue.enter(entry, seq, data_at);
@@ -575,7 +616,8 @@ impl<R: Receipt> Uploads<R> {
     }
 
     /// What the store gave for the object that a place is in. None is for an object past the frontier, for
-    /// one of another volume, and for one that was acknowledged before the objects were taken up.
+    /// one of an ancestor that was not taken up, and for one of the volume's own that was acknowledged before
+    /// the objects were taken up.
     pub fn receipt(&self, place: &ObjectPlace) -> Option<&R>
         ensures { option_map (λ receipt. R.state receipt.now) result ≡ option_map (λ object. object.receipt)
             (stored_at self.now.queue place.now) }
@@ -605,6 +647,13 @@ impl<R: Receipt> Uploads<R> {
         ensures { result ≡ self.now.uuid }
     {
         self.uuid
+    }
+
+    /// How many ancestors the volume has.
+    pub fn ancestors(&self) -> u32
+        ensures { result ≡ self.now.ancestors }
+    {
+        self.ancestors
     }
 
     /// The frontier: the greatest number up to which all objects are acknowledged. The open objects are those
@@ -647,7 +696,7 @@ impl<R: Receipt> Uploads<R> {
             uuid: *self.uuid.as_bytes(),
             number: self.window.last() + 1,
             sectors: self.sectors,
-            ancestors: 0,
+            ancestors: self.ancestors,
             end_before: Some(self.queue.end_of_last()),
         }
     }

@@ -1,7 +1,9 @@
--- A volume that opens blank goes on to, its newest checkpoint goes on, and each owner of its sectors is an object of its own.
+-- A volume that opens at its first object goes on to, its newest checkpoint goes on, and each owner of its sectors is an object
+-- of its own, or what it opens with.
 use Rattle.std.proofs.Common.{arith, ℕ, ◌+◌, ◌≤◌, ◌≡◌, Bool, true, false, cond, not, ◌&&◌, Option, Some, None, List, []}
-use Rattle.std.proofs.Common.{◌++◌, ◌∷◌, get_or, refl, ap, inl, inr}
+use Rattle.std.proofs.Common.{◌++◌, ◌∷◌, get_or, slice_get, zero, suc, IfSome, refl, sym, ap, subst, inl, inr}
 use Rattle.lsvd_base.specs.declared.entry.Entry.TheVariants as entries
+use Rattle.lsvd_base.specs.Image.{blank, zero_sector}
 use Rattle.lsvd_base.specs.Limits.{may_transfer}
 use Rattle.object_stream.specs.declared.object.Content.TheVariants.{Data, Checkpoint}
 use Rattle.object_stream.specs.declared.object.CopiedSector.{CopiedSector}
@@ -15,7 +17,7 @@ use Rattle.plain_disk.specs.declared.event.PlainEvent.TheVariants.{JobFailed, Se
 use Rattle.plain_disk.specs.declared.event.PlainEvent.TheVariants.{RemoveDone, RemoveFailed, PlanCopy, SealCopy, DropPlan}
 use Rattle.plain_disk.specs.declared.event.PlainEvent.TheVariants.{Status}
 use Rattle.plain_disk.specs.Cache.{after_reads}
-use Rattle.plain_disk.specs.State.{PlainState, PlainCheckpoint, OpensBlank, stream_in}
+use Rattle.plain_disk.specs.State.{PlainState, PlainCheckpoint, OpensFirst, stream_in}
 use Rattle.plain_disk.specs.Checkpoints.{checkpoint_at, is_started_checkpoint}
 use Rattle.plain_disk.specs.Entries.{after_entering, after_flush}
 use Rattle.plain_disk.specs.Objects.{is_busy, has_unsealed, end_of_next, after_take, after_done, window_after_done, after_failed}
@@ -23,21 +25,23 @@ use Rattle.plain_disk.specs.Reads.{look_calls, passes_look, objects_read, are_pi
 use Rattle.plain_disk.specs.Removals.{to_remove, with_removal, is_out}
 use Rattle.plain_disk.specs.Collection.{planned_copy, with_plan, with_copy, after_sealed_copy, after_drop_plan}
 use Rattle.plain_disk.specs.Step.{plain_after}
-use Rattle.plain_disk.specs.Found.{CreatedOpensBlank, EventsKeepOpening, StopsKeepOpening, MountsKeepOpening, OwnersArePast}
+use Rattle.plain_disk.specs.Found.{CreatedOpensFirst, EventsKeepOpening, StopsKeepOpening, MountsKeepOpening, OwnersArePast}
 use Rattle.plain_disk.specs.Found.{CheckpointGoesOn}
 use Rattle.plain_disk.proofs.CheckpointLemmas.{started_is_lowest, landed_from}
 use Rattle.plain_disk.proofs.EventLemmas.{either_state}
 
 -- ---- what no event changes
 
--- a volume with the geometry and the opening of another, and with this checkpoint
+-- a volume with the geometry, the ancestors and the opening of another, and with this checkpoint
 abbrev opened_as : PlainState → PlainCheckpoint → (other : PlainState) → PlainState
 opened_as state checkpoint other = record other {
   geometry = state.geometry;
+  chain = state.chain;
   opening = state.opening;
   number = state.number;
   end = state.end;
   owned = state.owned;
+  inherited = state.inherited;
   payloads = state.payloads;
   checkpoint = checkpoint;
 }
@@ -121,47 +125,70 @@ module _ (P : PlainState → Type 0) (state : PlainState) (is : HoldsAs P state 
 
 -- ---- the opening
 
-pub created_opens : CreatedOpensBlank
-created_opens g = record { number = refl; end = refl; opening = refl; owned = refl; payloads = refl }
+-- the sectors of a blank image are zeros
+pub blank_sector : (sectors k : ℕ) (sector : List ℕ) → slice_get (blank sectors) k ≡ Some sector → sector ≡ zero_sector
+blank_sector zero k sector at = absurd (cc)
+blank_sector (suc sectors) zero sector at = let same : zero_sector ≡ sector = cc in sym same
+blank_sector (suc sectors) (suc k) sector at = blank_sector sectors k sector at
 
-opens_as : (state other : PlainState) (checkpoint : PlainCheckpoint) → OpensBlank state
-    → OpensBlank (opened_as state checkpoint other)
+pub created_opens : CreatedOpensFirst
+created_opens g = record {
+  number = refl;
+  end = refl;
+  payloads = refl;
+  inherited = λ k. tt;
+  zeros = λ k sector none at. blank_sector g.sectors k sector at;
+}
+
+opens_as : (state other : PlainState) (checkpoint : PlainCheckpoint) → OpensFirst state
+    → OpensFirst (opened_as state checkpoint other)
 opens_as state other checkpoint h = record {
   number = h.number;
   end = h.end;
-  opening = h.opening;
-  owned = h.owned;
   payloads = h.payloads;
+  inherited = h.inherited;
+  zeros = h.zeros;
 }
 
 pub events_keep_opening : EventsKeepOpening
 events_keep_opening state event h =
-    event_by OpensBlank state (λ other. opens_as state other state.checkpoint h)
+    event_by OpensFirst state (λ other. opens_as state other state.checkpoint h)
     (λ number started other. opens_as state other (checkpoint_at number state) h) event
 
 pub stops_keep_opening : StopsKeepOpening
 stops_keep_opening state calls h = record {
   number = h.number;
   end = h.end;
-  opening = h.opening;
-  owned = h.owned;
   payloads = h.payloads;
+  inherited = h.inherited;
+  zeros = h.zeros;
 }
 
 pub mounts_keep_opening : MountsKeepOpening
 mounts_keep_opening state landed found log h = (
-  record { number = h.number; end = h.end; opening = h.opening; owned = h.owned; payloads = h.payloads },
-  record { number = h.number; end = h.end; opening = h.opening; owned = h.owned; payloads = h.payloads },
+  record {
+    number = h.number;
+    end = h.end;
+    payloads = h.payloads;
+    inherited = h.inherited;
+    zeros = h.zeros;
+  },
+  record {
+    number = h.number;
+    end = h.end;
+    payloads = h.payloads;
+    inherited = h.inherited;
+    zeros = h.zeros;
+  },
 )
 
 pub owners_are_past : OwnersArePast
 owners_are_past state number k owner h owns =
     elim (owns_by_number (stream_in state) number k owner owns) [
       | inl opening ↦
-          let none : get_or state.owned k None ≡ None = ap (λ (o : List (Option Owner)). get_or o k None) h.owned in
-          let bad : ⊥ = cc in
-          absurd bad
-      | inr later ↦ (later.0, omega (arith, later.1, h.number), later.2)
+          let level = subst (λ o. IfSome o (λ (at : Owner). 1 ≤ at.level)) opening (h.inherited k) in
+          inr (level, opening)
+      | inr later ↦ inl (later.0, omega (arith, later.1, h.number), later.2)
     ]
 
 -- ---- the checkpoint

@@ -6,6 +6,8 @@ use Rattle.std.proofs.lemmas.List.Folds.{list_any-append}
 use Rattle.std.specs.List.{list_any, slice_get}
 use Rattle.lsvd_base.specs.declared.geometry.Geometry.{Geometry}
 use Rattle.lsvd_base.specs.Limits.{may_transfer}
+use Rattle.std.proofs.lemmas.Bool.Decides.{nat_tests}
+use Rattle.object_stream.specs.declared.owner.Owner.{Owner}
 use Rattle.object_stream.specs.declared.object.CopiedSector.{CopiedSector}
 use Rattle.object_stream.specs.declared.object.Content.TheVariants.{Data, Copy, Checkpoint}
 use Rattle.object_stream.specs.declared.object.StreamObject.{StreamObject}
@@ -21,7 +23,7 @@ use Rattle.plain_disk.specs.declared.event.PlainEvent.TheVariants.{JobFailed, Se
 use Rattle.plain_disk.specs.declared.event.PlainEvent.TheVariants.{RemoveDone, RemoveFailed, PlanCopy, SealCopy, DropPlan}
 use Rattle.plain_disk.specs.declared.event.PlainEvent.TheVariants.{Status}
 use Rattle.plain_disk.specs.Cache.{after_reads}
-use Rattle.plain_disk.specs.State.{PlainState, OpensBlank, created_volume, stream_in}
+use Rattle.plain_disk.specs.State.{PlainState, OpensFirst, created_volume, stream_in}
 use Rattle.plain_disk.specs.Checkpoints.{checkpoint_at, landed_checkpoint, is_started_checkpoint}
 use Rattle.plain_disk.specs.Objects.{is_busy, has_unsealed, end_of_next, window_after_take, after_done}
 use Rattle.plain_disk.specs.Reads.{look_calls, passes_look, objects_read, are_pinned, without_pins}
@@ -302,15 +304,23 @@ owners_before state number k end h past sealed is =
     ∙ ap (λ (os : List StreamObject). after_objects before (end_at stream before)
     (drop (end_at stream before - state.end) state.entries) (owners stream before) os k) it
 
--- of a volume that opens blank, an object that owns a sector
-own_is_past : (state : PlainState) (number to k : ℕ) → OpensBlank state → is_own number (owners (stream_in state) to k) ≡ true
+-- an ancestor's object is none of the volume's own
+no_ancestor : (number : ℕ) (owner : Owner) → 1 ≤ owner.level → is_own number (Some owner) ≡ true → ⊥
+no_ancestor number owner level own = grind (arith, nat_tests)
+
+-- of a volume that opens at its first object, an own object that owns a sector
+own_is_past : (state : PlainState) (number to k : ℕ) → OpensFirst state → is_own number (owners (stream_in state) to k) ≡ true
     → (1 < number) × (number ≤ to)
 own_is_past state number to k blank owns =
     let own = own_by number (owners (stream_in state) to k) owns in
-    let past = owners_are_past state to k own.0 blank own.1 in
-    (omega (arith, past.1, own.2), omega (arith, past.2, own.2))
+    elim (owners_are_past state to k own.0 blank own.1) [
+      | inl past ↦ (omega (arith, past.1, own.2), omega (arith, past.2, own.2))
+      | inr inherited ↦
+          let none : is_own number (Some own.0) ≡ true = ap (is_own number) (sym own.1) ∙ owns in
+          absurd (no_ancestor number own.0 inherited.0 none)
+    ]
 
-mapped_is_before : (state : PlainState) (landed : Numbers) (number : ℕ) → IsPlainVolume state → OpensBlank state
+mapped_is_before : (state : PlainState) (landed : Numbers) (number : ℕ) → IsPlainVolume state → OpensFirst state
     → SealsCheckpoints state → maps (landed_checkpoint landed state) number ≡ true
     → (1 < number) × (number < (landed_checkpoint landed state).number)
 mapped_is_before state landed number h blank seals mapped =

@@ -1,6 +1,7 @@
 -- Contract: what a mount finds of a plain volume in a store, and that what it makes of that is what a mount is to make, opened at
 -- the newest checkpoint.
-use Rattle.std.specs.Prelude.{◌≡◌, ℕ, ◌+◌, ◌-◌, ◌<◌, ◌≤◌, ◌&&◌, nat_le, IfSome, Some, IsTrue, true, false, not, take, drop}
+use Rattle.std.specs.Prelude.{◌≡◌, ℕ, ◌+◌, ◌-◌, ◌<◌, ◌≤◌, ◌⊎◌, ◌&&◌, nat_le, IfSome, Some, None, IsTrue, true, false, not, take}
+use Rattle.std.specs.Prelude.{drop, slice_index_or}
 use Rattle.std.specs.List.{slice_get}
 use Rattle.lsvd_base.specs.declared.geometry.Geometry.{Geometry}
 use Rattle.lsvd_base.specs.Image.{after}
@@ -13,7 +14,7 @@ use Rattle.plain_disk.specs.declared.event.PlainEvent.{PlainEvent}
 use Rattle.plain_disk.specs.declared.log.PlainCommit.{PlainCommit}
 use Rattle.plain_disk.specs.Log.{PlainLog, mounted_log, empty_from}
 use Rattle.plain_disk.specs.Cache.{cache_with}
-use Rattle.plain_disk.specs.State.{PlainState, PlainCheckpoint, OpensBlank, created_volume, stream_in, history_length}
+use Rattle.plain_disk.specs.State.{PlainState, PlainCheckpoint, OpensFirst, created_volume, stream_in, history_length}
 use Rattle.plain_disk.specs.State.{frontier_of, frontier_end, folded_to}
 use Rattle.plain_disk.specs.Checkpoints.{landed_checkpoint}
 use Rattle.plain_disk.specs.Removals.{maps, has, absent_of}
@@ -148,27 +149,34 @@ FoundAgain =
     × ((log : ℕ) → IsPlainVolume (mounted_on log landed state)
     → IsFoundAgain landed (recovered_number landed state) (landed_checkpoint landed state) (mounted_on log landed state))
 
--- ---- a volume that is followed from its creation on
+-- ---- a volume that is followed from its beginning on
 
-abbrev pub CreatedOpensBlank : Type 0
-CreatedOpensBlank = (g : Geometry) → OpensBlank (created_volume g)
+abbrev pub CreatedOpensFirst : Type 0
+CreatedOpensFirst = (g : Geometry) → OpensFirst (created_volume g)
 
 abbrev pub EventsKeepOpening : Type 0
-EventsKeepOpening = (state : PlainState) (event : PlainEvent) → OpensBlank state → OpensBlank (plain_after event state)
+EventsKeepOpening = (state : PlainState) (event : PlainEvent) → OpensFirst state → OpensFirst (plain_after event state)
 
 abbrev pub StopsKeepOpening : Type 0
-StopsKeepOpening = (state : PlainState) (calls : ℕ) → OpensBlank state → OpensBlank (stopping_after_calls calls state)
+StopsKeepOpening = (state : PlainState) (calls : ℕ) → OpensFirst state → OpensFirst (stopping_after_calls calls state)
 
 abbrev pub MountsKeepOpening : Type 0
 MountsKeepOpening =
-    (state : PlainState) (landed : Numbers) (found : PlainCommit) (log : ℕ) → OpensBlank state
-    → OpensBlank (mounted_from landed found state) × OpensBlank (mounted_on log landed state)
+    (state : PlainState) (landed : Numbers) (found : PlainCommit) (log : ℕ) → OpensFirst state
+    → OpensFirst (mounted_from landed found state) × OpensFirst (mounted_on log landed state)
 
--- each owner is an object of its own, after the first one and not past the number
+-- each owner is an object of its own, after the first one and not past the number, or the ancestor's that the volume opens with
+-- there
+abbrev pub IsOwnPast : (number : ℕ) → Owner → Type 0
+IsOwnPast number owner = (owner.level ≡ 0) × (1 < owner.number) × (owner.number ≤ number)
+
+abbrev pub IsInheritedAt : PlainState → (k : ℕ) → Owner → Type 0
+IsInheritedAt state k owner = (1 ≤ owner.level) × (slice_index_or state.owned k None ≡ Some owner)
+
 abbrev pub OwnersArePast : Type 0
 OwnersArePast =
-    (state : PlainState) (number k : ℕ) (owner : Owner) → OpensBlank state → owners (stream_in state) number k ≡ Some owner
-    → (owner.level ≡ 0) × (1 < owner.number) × (owner.number ≤ number)
+    (state : PlainState) (number k : ℕ) (owner : Owner) → OpensFirst state → owners (stream_in state) number k ≡ Some owner
+    → IsOwnPast number owner ⊎ IsInheritedAt state k owner
 
 -- ---- its checkpoints
 
@@ -220,5 +228,5 @@ pub record IsMappedThere (landed : Numbers) (state : PlainState) (number : ℕ) 
 
 abbrev pub MappedHaveLanded : Type 0
 MappedHaveLanded =
-    (state : PlainState) (landed : Numbers) (number : ℕ) → IsPlainVolume state → MayLand state landed → OpensBlank state
+    (state : PlainState) (landed : Numbers) (number : ℕ) → IsPlainVolume state → MayLand state landed → OpensFirst state
     → SealsCheckpoints state → maps (landed_checkpoint landed state) number ≡ true → IsMappedThere landed state number

@@ -1,9 +1,11 @@
 -- Contract: the state of the plain volume.
-use Rattle.std.specs.Prelude.{◌≡◌, ℕ, ◌+◌, ◌-◌, Option, None, List, [], ◌∷◌, ◌++◌, length, take, drop, map, slice_index_or}
-use Rattle.std.specs.List.{range_with_len}
+use Rattle.std.specs.Prelude.{◌≡◌, ℕ, ◌+◌, ◌-◌, ◌≤◌, Option, Some, None, IfSome, List, [], ◌∷◌, ◌++◌, length, take, drop, map}
+use Rattle.std.specs.Prelude.{slice_index_or}
+use Rattle.std.specs.List.{range_with_len, slice_get}
+use Rattle.clone_chain.specs.declared.ancestor.Ancestor.{Ancestor}
 use Rattle.lsvd_base.specs.declared.geometry.Geometry.{Geometry}
 use Rattle.lsvd_base.specs.declared.entry.Entry.{Entry}
-use Rattle.lsvd_base.specs.Image.{Image, blank, after}
+use Rattle.lsvd_base.specs.Image.{Image, blank, zero_sector, after}
 use Rattle.object_stream.specs.declared.owner.Owner.{Owner}
 use Rattle.object_stream.specs.declared.object.CopiedSector.{CopiedSector}
 use Rattle.object_stream.specs.declared.object.StreamObject.{StreamObject}
@@ -18,18 +20,21 @@ pub record PlainCheckpoint : Type 0 where
   pub number : ℕ
   pub owned : List (Option Owner)
 
--- A volume as lists: the image, the count of entries and the owners of the sectors that it opens with, after the object of a
--- number, and how many sectors of payload each object from the first up to that one has; the entries and the objects since
--- then; which of the objects are on their way to the store; the newest checkpoint that is acknowledged; the sectors that the plan
--- of a copy takes which is out; the objects that plans of reads have pinned; those that holds keep; those that were removed,
--- those that were ever given out for it, these among them and any whose removal failed, and the one whose removal is out; and the
--- cache.
+-- A volume as lists: the volumes that it is a clone of, the nearest first, none for a volume that was created; the image, the
+-- count of entries and the owners of the sectors that it opens with, after the object of a number, where the object of an
+-- ancestor that owns a sector at the beginning has it in its payload, and how many sectors of payload each object of its own from
+-- the first up to that one has; the entries and the objects since then; which of the objects are on their way to the store; the
+-- newest checkpoint that is acknowledged; the sectors that the plan of a copy takes which is out; the objects that plans of reads
+-- have pinned; those that holds keep; those that were removed, those that were ever given out for it, these among them and any
+-- whose removal failed, and the one whose removal is out; and the cache.
 pub record PlainState : Type 0 where
   pub geometry : Geometry
+  pub chain : List Ancestor
   pub opening : Image
   pub number : ℕ
   pub end : ℕ
   pub owned : List (Option Owner)
+  pub inherited : List ℕ
   pub payloads : List ℕ
   pub entries : List Entry
   pub objects : List StreamObject
@@ -47,10 +52,12 @@ pub record PlainState : Type 0 where
 abbrev pub created_volume : Geometry → PlainState
 created_volume g = record {
   geometry = g;
+  chain = [];
   opening = blank g.sectors;
   number = 1;
   end = 0;
   owned = [];
+  inherited = [];
   payloads = 0 ∷ [];
   entries = [];
   objects = [];
@@ -65,13 +72,15 @@ created_volume g = record {
   cache = cache_with (empty_from g.log 0);
 }
 
--- The volume opens blank, at its first object: so does one that is followed from its creation on.
-pub record OpensBlank (state : PlainState) : Type 0 where
+-- The volume opens at its first object, with no entry before it: so does one that is followed from its beginning on. What it
+-- opens with is in objects of its ancestors, and zeros: a volume that was created opens with zeros alone.
+pub record OpensFirst (state : PlainState) : Type 0 where
   pub number : state.number ≡ 1
   pub end : state.end ≡ 0
-  pub opening : state.opening ≡ blank state.geometry.sectors
-  pub owned : state.owned ≡ []
   pub payloads : state.payloads ≡ 0 ∷ []
+  pub inherited : (k : ℕ) → IfSome (slice_index_or state.owned k None) (λ owner. 1 ≤ owner.level)
+  pub zeros : (k : ℕ) (sector : List ℕ) → slice_index_or state.owned k None ≡ None → slice_get state.opening k ≡ Some sector
+      → sector ≡ zero_sector
 
 -- its stream of objects
 abbrev pub stream_in : PlainState → Stream
@@ -79,6 +88,7 @@ stream_in state = record {
   number = state.number;
   end = state.end;
   opening = λ k. slice_index_or state.owned k None;
+  inherited = λ k. slice_index_or state.inherited k 0;
   entries = state.entries;
   objects = state.objects;
 }

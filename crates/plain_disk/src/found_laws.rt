@@ -1,4 +1,4 @@
-ghost use Rattle.plain_disk.specs.Found.{CheckpointGoesOn, CommitsAreLater, CreatedOpensBlank};
+ghost use Rattle.plain_disk.specs.Found.{CheckpointGoesOn, CommitsAreLater, CreatedOpensFirst};
 ghost use Rattle.plain_disk.specs.Found.{CreatedSealsCheckpoints, EventsKeepOpening};
 ghost use Rattle.plain_disk.specs.Found.{EventsSealCheckpoints, FoundAgain, FoundHasCounts, FoundHasPresent};
 ghost use Rattle.plain_disk.specs.Found.{FoundHasStream, FoundIsPlainVolume, LosesOnSameLog};
@@ -32,11 +32,12 @@ pub fn a_mount_finds_what_the_volume_has()
     ensures stream { FoundHasStream }
 {}
 
-/// A law: a volume that is followed from its creation on opens blank, and each owner of its sectors is an
-/// object of its own. Its newest checkpoint goes on only, each of its checkpoints is one of its objects, and
-/// what the newest one that has landed maps is there.
-pub fn a_volume_is_followed_from_its_creation_on()
-    ensures created { CreatedOpensBlank }
+/// A law: a volume that is followed from its beginning on opens at its first object, and each owner of its
+/// sectors is an object of its own, or the ancestor's with which it opens there. Its newest checkpoint goes
+/// on only, each of its checkpoints is one of its objects, and what the newest one that has landed maps is
+/// there.
+pub fn a_volume_is_followed_from_its_beginning_on()
+    ensures created { CreatedOpensFirst }
     ensures events { EventsKeepOpening }
     ensures stops { StopsKeepOpening }
     ensures mounts { MountsKeepOpening }

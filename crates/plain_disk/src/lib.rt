@@ -19,7 +19,7 @@ pub use cache::PendingWrite;
 pub use event::{PlainEvent, PlainReply, PlannedRead};
 pub use found_laws::{
     a_mount_finds_a_plain_volume, a_mount_finds_what_the_volume_has,
-    a_mount_is_a_mount_of_what_is_found, a_volume_is_followed_from_its_creation_on,
+    a_mount_is_a_mount_of_what_is_found, a_volume_is_followed_from_its_beginning_on,
 };
 pub use log::{PlainCommit, PlainRecord};
 pub use numbers::ObjectNumbers;

@@ -82,10 +82,12 @@ impl Model for PlainVolume {
 
     ghost view = { λ v. record {
       geometry = v.geometry;
+      chain = [];
       opening = blank v.geometry.sectors;
       number = v.stream.number;
       end = v.stream.end;
       owned = v.stream.opening.items;
+      inherited = [];
       payloads = 0 ∷ [];
       entries = v.stream.entries.items;
       objects = v.stream.objects.items;

@@ -107,7 +107,7 @@ readable_place lba sectors k log queue (Log (Data seq sector)) logged fetched pl
     logged k seq sector placed.from placed.to (in_log (logged_at queue.maps k) (settled_at queue.maps k)
     (Data seq sector) placed.is)
 readable_place lba sectors k log queue (Log (Zeros seq)) logged fetched placed = tt
-readable_place lba sectors k log queue (Object place) logged fetched placed = (fetched k place placed.from placed.to placed.is).1
+readable_place lba sectors k log queue (Object place) logged fetched placed = fetched k place placed.from placed.to placed.is
 
 good_row : (lba sectors : ℕ) (log : LogState) (queue : QueueState) (row : Extent VolumePlace)
     → LogHasPlaces lba sectors queue.maps log

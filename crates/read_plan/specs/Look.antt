@@ -26,16 +26,17 @@ pub record MayLook (lba sectors : ℕ) : Type 0 where
 
 -- ---- the plan
 
--- an object of this number has a sector of a range, as the maps place it
+-- the volume's own object of this number has a sector of a range, as the maps place it
 pub record HasPlaceIn (lba sectors : ℕ) (maps : MapsState) (number : ℕ) : Type 0 where
   pub k : ℕ
   pub place : ObjectPlace
   pub from : lba ≤ k
   pub to : k < lba + sectors
   pub is : volume_place_at maps k ≡ Some (Object place)
+  pub own : place.level ≡ 0
   pub has_number : place.number ≡ number
 
--- the numbers of the objects that have sectors of a range, ascending, each once
+-- the numbers of the volume's own objects that have sectors of a range, ascending, each once
 pub record AreObjectsIn (lba sectors : ℕ) (maps : MapsState) (numbers : List ℕ) : Type 0 where
   pub ascending : IsStrictlyIncreasing numbers
   pub each : (number : ℕ) → Contains numbers number ↔ HasPlaceIn lba sectors maps number

@@ -37,11 +37,11 @@ abbrev pub HasObjectSector : Option StoredObject → (sector : ℕ) → Type 0
 HasObjectSector None sector = ⊥
 HasObjectSector (Some object) sector = 512 * (object.front + sector + 1) ≤ object.receipt.size
 
--- the volume's own objects have each sector of a range that the objects' map alone places
+-- the objects have each sector of a range that the objects' map alone places
 abbrev pub ObjectsHavePlaces : (lba sectors : ℕ) → QueueState → Type 0
 ObjectsHavePlaces lba sectors queue =
     (k : ℕ) (place : ObjectPlace) → lba ≤ k → k < lba + sectors → volume_place_at queue.maps k ≡ Some (Object place)
-    → (place.level ≡ 0) × HasObjectSector (stored_at queue place) place.sector
+    → HasObjectSector (stored_at queue place) place.sector
 
 -- ---- what a plan has for a sector
 

@@ -21,7 +21,7 @@ pub record PlanState : Type 0 where
   -- the bytes that the log has, and zeros elsewhere
   pub bytes : List ℕ
   pub pieces : List PieceState
-  -- the numbers of the objects that it takes sectors from
+  -- the numbers of the volume's own objects that it takes sectors from
   pub objects : List ℕ
 
 -- a piece lies inside a read of so many bytes, and inside its object

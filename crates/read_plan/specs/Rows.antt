@@ -1,11 +1,13 @@
 -- For this crate's own clauses: what the rows of a look are read as, one after the other.
-use Rattle.std.specs.Prelude.{◌≡◌, ℕ, ◌+◌, ◌-◌, ◌*◌, ◌≤◌, ◌^◌, Option, Some, None, List, [], ◌∷◌, ◌++◌, length}
+use Rattle.std.specs.Prelude.{◌≡◌, ℕ, ◌+◌, ◌-◌, ◌*◌, ◌≤◌, ◌^◌, ◌==◌, Option, Some, None, List, [], ◌∷◌, ◌++◌, length}
+use Rattle.std.specs.Prelude.{if◌then◌else◌}
 use Rattle.std.specs.List.{filter_map}
 use Rattle.lsvd_bytes.specs.Places.{with_bytes}
 use Rattle.extent_map.specs.declared.extent.Extent.{Extent}
 use Rattle.cache_log.specs.declared.row.Row.{Row}
 use Rattle.cache_log.specs.Log.{LogState, AreData, IsReadFrom}
 use Rattle.volume_maps.specs.declared.place.LogPlace.TheVariants.{Data, Zeros}
+use Rattle.volume_maps.specs.declared.place.ObjectPlace.{ObjectPlace}
 use Rattle.volume_maps.specs.declared.place.VolumePlace.{VolumePlace}
 use Rattle.volume_maps.specs.declared.place.VolumePlace.TheVariants.{Log, Object}
 use Rattle.object_uploads.specs.State.{StoredObject, QueueState}
@@ -81,10 +83,14 @@ abbrev pub row_pieces : QueueState → (lba : ℕ) → List (Extent VolumePlace)
 row_pieces queue lba [] = []
 row_pieces queue lba (row ∷ rows) = row_piece queue lba row ++ row_pieces queue lba rows
 
--- the numbers of the objects that have rows, in the order of these
+-- the number of the volume's own object that a place is in, if it is in one
+abbrev pub own_number : ObjectPlace → Option ℕ
+own_number place = if place.level == 0 then Some place.number else None
+
+-- the numbers of the volume's own objects that have rows, in the order of these
 abbrev pub named_object : VolumePlace → Option ℕ
 named_object (Log place) = None
-named_object (Object place) = Some place.number
+named_object (Object place) = own_number place
 
 abbrev pub named_objects : List (Extent VolumePlace) → List ℕ
 named_objects rows = filter_map (λ row. named_object row.place) rows

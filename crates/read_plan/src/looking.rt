@@ -25,9 +25,10 @@ use std::alloc::Global;
 
 /// Plans a read of `sectors` sectors from `lba` on: 1 to 65,536 of them, below 2^31 (a condition). What the
 /// log has of them is read at once, by one read of the device for each row of data in it; where objects have
-/// the others is noted with the receipts, and then each of these objects is pinned once more. The log has the
-/// data of the places that its map gives, and the volume's own objects those of the places that theirs does;
-/// each object has fewer than 2^64 - 1 pins (conditions).
+/// the others is noted with the receipts, and then each of these objects that is the volume's own is pinned
+/// once more: those of ancestors are never removed. The log has the data of the places that its map gives,
+/// and the objects those of the places that theirs does; each object has fewer than 2^64 - 1 pins
+/// (conditions).
 ///
 /// `Fault` comes where a read failed, which was the last that was made, and `OutOfMemory` where memory ran
 /// out: all memory is taken before the first read. After an error the objects are as before.

@@ -62,7 +62,8 @@ fn piece_of<R: Receipt>(
     }))
 }
 
-/// The numbers of the objects that have rows, in ascending order, each once. The one error is out of memory.
+/// The numbers of the volume's own objects that have rows, in ascending order, each once. Those of ancestors
+/// are left out: they are never removed. The one error is out of memory.
 pub(crate) fn numbers_of(
     alloc: Global,
     rows: &[Extent<VolumePlace>],
@@ -77,7 +78,7 @@ pub(crate) fn numbers_of(
     Ok(numbers)
 }
 
-// The numbers of the objects that have rows, in the order of these.
+// The numbers of the volume's own objects that have rows, in the order of these.
 fn collected(alloc: Global, rows: &[Extent<VolumePlace>]) -> Result<Vec<u64>, AllocError>
     ensures { IfOk result (λ numbers. numbers.items ≡ named_objects rows.now) }
 {
@@ -86,12 +87,12 @@ fn collected(alloc: Global, rows: &[Extent<VolumePlace>]) -> Result<Vec<u64>, Al
         .collect(alloc)
 }
 
-// The number of the object that a place is in, where it is in one.
+// The number of the volume's own object that a place is in, where it is in one.
 fn named_object(place: &VolumePlace) -> Option<u64>
     ensures { result ≡ named_object place.now }
 {
     match place {
-        VolumePlace::Log(_) => None,
-        VolumePlace::Object(place) => Some(place.number),
+        VolumePlace::Object(place) if place.level == 0 => Some(place.number),
+        VolumePlace::Object(_) | VolumePlace::Log(_) => None,
     }
 }

@@ -50,7 +50,7 @@ impl<R: Receipt> Plan<R> {
         self.history_length
     }
 
-    /// The numbers of the objects that it takes sectors from, in ascending order, each once.
+    /// The numbers of the volume's own objects that it takes sectors from, in ascending order, each once.
     pub fn objects(&self) -> &[u64]
         ensures objects { result.now ≡ self.now.objects }
         ensures ascending { IsStrictlyIncreasing self.now.objects }

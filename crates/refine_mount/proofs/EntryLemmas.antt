@@ -35,6 +35,7 @@ module _ (data_at : ℕ → ℕ) (log : PlainLog) where
       let same = take-append-le (frontier_end plain - plain.end) plain.entries (entry ∷ []) has in
       record {
         geometry = added.geometry ∙ shows.geometry;
+        ancestors = added.ancestors ∙ shows.ancestors;
         stream = adding_keeps_stream data_at (stream_in plain) old new entry uploads shows.stream at;
         window = added.window ∙ shows.window;
         image =
@@ -44,8 +45,8 @@ module _ (data_at : ℕ → ℕ) (log : PlainLog) where
         copied = λ tells alike.
             subst (λ entries. AreCopied tells (after plain.opening entries) new.uploads.queue) (sym same)
             (kept.copies tells (settled_image plain)
-            (shows.copied tells (same_alike tells old.uploads.queue new.uploads.queue at.entered.receipts at.entered.sealed
-            alike)));
+            (shows.copied tells (same_alike tells old.uploads.queue new.uploads.queue at.entered.receipts at.entered.inherited
+            at.entered.sealed alike)));
       }
 
   all_go_on : (entries : List Entry) (old new : ObjLogState) (plain : PlainState) → HasEntriesToFrontier plain

@@ -10,6 +10,7 @@ use Rattle.std.proofs.lemmas.Bool.{cases_lt}
 use Rattle.std.proofs.lemmas.Bool.Decides.{nat_tests}
 use Rattle.std.proofs.lemmas.List.Elements.{All-nil, All-weaker}
 use Rattle.std.proofs.lemmas.List.FromFn.{get_or-map-range_with_len, length-map-range_with_len}
+use Rattle.clone_chain.specs.declared.ancestor.Ancestor.{Ancestor}
 use Rattle.lsvd_base.specs.declared.geometry.Geometry.{Geometry}
 use Rattle.lsvd_base.specs.declared.entry.Entry.{Entry}
 use Rattle.lsvd_base.specs.Image.{Image, after}
@@ -64,15 +65,27 @@ payload_in (Some row) = row.payload
 abbrev payloads_to : (number : ℕ) → List ObjectRow → List ℕ
 payloads_to number rows = map (λ n. payload_in (row_of n rows)) (range_with_len 1 number)
 
--- It opens with this image after the last object of the list, and nothing was done since. Its newest checkpoint has these owners,
--- the objects that have no row were removed, and holds keep those whose rows say so.
-abbrev opened_after : Geometry → (checkpoint number end : ℕ) → Image → QueueState → List (Option Owner) → PlainState
-opened_after geometry checkpoint number end image queue owned = record {
+-- where objects have the sectors of the volume, as the objects' map says
+abbrev sector_in : Option ObjectPlace → ℕ
+sector_in None = 0
+sector_in (Some place) = place.sector
+
+abbrev sectors_held : (sectors : ℕ) → QueueState → List ℕ
+sectors_held sectors queue = map (λ k. sector_in (settled_at queue.maps k)) (range_with_len 0 sectors)
+
+-- It is a clone of these ancestors, opens with this image after the last object of the list, where the objects' map has its
+-- sectors, and nothing was done since. Its newest checkpoint has these owners, the objects that have no row were removed, and
+-- holds keep those whose rows say so.
+abbrev opened_after : Geometry → List Ancestor → (checkpoint number end : ℕ) → Image → QueueState → List (Option Owner)
+    → PlainState
+opened_after geometry chain checkpoint number end image queue owned = record {
   geometry = geometry;
+  chain = chain;
   opening = image;
   number = number;
   end = end;
   owned = held_owners geometry.sectors queue;
+  inherited = sectors_held geometry.sectors queue;
   payloads = payloads_to number queue.maps.objects.rows;
   entries = [];
   objects = [];
@@ -93,15 +106,15 @@ end_of_none plain none number =
     ap (λ (objects : List StreamObject). end_after plain.end (take (number - plain.number) objects)) none
     ∙ ap (end_after plain.end) (take-nil (number - plain.number))
 
-module _ (uuid : List ℕ) (geometry : Geometry) (checkpoint number end : ℕ) (image : Image) (queue : QueueState)
-    (owned : List (Option Owner)) (some : 0 < checkpoint) (from : checkpoint ≤ number) (reached : queue.frontier ≡ number)
-    (known : AreKnown uuid queue) (inside : HasPlacesInside geometry.sectors queue) (table : HasTableFrom checkpoint queue)
-    (tells : Tells checkpoint queue owned) where
+module _ (uuid : List ℕ) (geometry : Geometry) (chain : List Ancestor) (checkpoint number end : ℕ) (image : Image)
+    (queue : QueueState) (owned : List (Option Owner)) (some : 0 < checkpoint) (from : checkpoint ≤ number)
+    (reached : queue.frontier ≡ number) (known : AreKnown uuid queue) (inside : HasPlacesInside geometry.sectors queue)
+    (table : HasTableFrom checkpoint queue) (tells : Tells checkpoint queue owned) where
   abbrev rows : List ObjectRow
   rows = queue.maps.objects.rows
 
   abbrev volume : PlainState
-  volume = opened_after geometry checkpoint number end image queue owned
+  volume = opened_after geometry chain checkpoint number end image queue owned
 
   -- its checkpoint holds the owners that it opens with, where it opens there
   opened_holds : number ≤ checkpoint → (k : ℕ) → get_or owned k None ≡ owners (stream_in volume) checkpoint k
@@ -286,18 +299,30 @@ module _ (uuid : List ℕ) (geometry : Geometry) (checkpoint number end : ℕ) (
 
 -- ---- the list shows it
 
--- places up to the object that a stream opens after are in none of its own objects
-none_placed : (stream : Stream) (sectors last k : ℕ) (place : Option ObjectPlace) → last ≡ stream.number
-    → IfSome place (PlaceFits sectors last k) → IfSome place (IsPlacedIn stream k)
-none_placed stream sectors last k None same fits = tt
-none_placed stream sectors last k (Some place) same fits = λ own past. absurd (omega (arith, same, fits.number, past))
+-- the sector that a place has, where it lies inside
+held_at : (sectors : ℕ) (queue : QueueState) (k : ℕ) (place : ObjectPlace) → HasPlacesInside sectors queue
+    → settled_at queue.maps k ≡ Some place → place.sector ≡ get_or (sectors_held sectors queue) k 0
+held_at sectors queue k place inside at =
+    sym (get_or-map-range_with_len (λ k. sector_in (settled_at queue.maps k)) 0 sectors k k 0 (inside k place at).0 (omega arith)
+    ∙ ap sector_in at)
 
-module _ (uuid : List ℕ) (geometry : Geometry) (checkpoint number end : ℕ) (log : ObjLogState)
-    (list : IsListUpTo uuid geometry number end log) (order : IsUploads log.uploads)
+-- Places up to the object that a stream opens after are in none of its own objects; those in objects of ancestors are where the
+-- stream opens with them.
+none_placed : (stream : Stream) (sectors ancestors last k : ℕ) (place : Option ObjectPlace) → last ≡ stream.number
+    → ((some : ObjectPlace) → place ≡ Some some → some.sector ≡ stream.inherited k)
+    → IfSome place (PlaceFits sectors ancestors last k) → IfSome place (IsPlacedIn stream k)
+none_placed stream sectors ancestors last k None same held fits = tt
+none_placed stream sectors ancestors last k (Some place) same held fits = (
+  λ own past. (let high = fits.number own in absurd (omega (arith, same, high, past))),
+  λ above. held place refl,
+)
+
+module _ (uuid : List ℕ) (geometry : Geometry) (chain : List Ancestor) (checkpoint number end : ℕ) (log : ObjLogState)
+    (list : IsListUpTo uuid geometry (length chain) number end log) (order : IsUploads log.uploads)
     (inside : HasPlacesInside geometry.sectors log.uploads.queue) (image : Image) (has : HasImage image log.uploads.queue)
     (owned : List (Option Owner)) where
   abbrev opened : PlainState
-  opened = opened_after geometry checkpoint number end image log.uploads.queue owned
+  opened = opened_after geometry chain checkpoint number end image log.uploads.queue owned
 
   abbrev stream : Stream
   stream = stream_in opened
@@ -319,8 +344,9 @@ module _ (uuid : List ℕ) (geometry : Geometry) (checkpoint number end : ℕ) (
         held_owner_at geometry.sectors log.uploads.queue inside k
         ∙ ap (λ (objects : List StreamObject). after_objects number end [] stream.opening objects k)
         (sym (take-nil (frontier - number)));
-    placed = λ k. none_placed stream log.uploads.sectors frontier k (settled_at log.uploads.queue.maps k) list.frontier
-        (order.places k);
+    placed = λ k. none_placed stream log.uploads.sectors log.uploads.ancestors frontier k
+        (settled_at log.uploads.queue.maps k) list.frontier
+        (λ place. held_at geometry.sectors log.uploads.queue k place inside) (order.places k);
     sealed = none_sealed;
     logged = λ k.
         list.logged k
@@ -333,6 +359,7 @@ module _ (uuid : List ℕ) (geometry : Geometry) (checkpoint number end : ℕ) (
       let none = take-nil {A = Entry} (frontier_end opened - end) in
       record {
         geometry = list.geometry_is;
+        ancestors = list.ancestors_are;
         stream = record {
           objects = are_of_stream data_at;
           sectors = list.sectors ∙ sym (ap (λ (g : Geometry). g.sectors) list.geometry_is);
@@ -346,15 +373,16 @@ module _ (uuid : List ℕ) (geometry : Geometry) (checkpoint number end : ℕ) (
       }
 
 pub list_shows_some : ListShowsSome
-list_shows_some uuid geometry checkpoint number end log limits some from list order inside table =
+list_shows_some uuid geometry chain checkpoint number end log limits some from list order inside table =
     let queue = log.uploads.queue in
     let known = order.known in
     let image = list_has_some_image geometry.sectors log inside in
     let told = some_tell log.uploads.uuid geometry.sectors checkpoint queue known inside table in (
-      opened_after geometry checkpoint number end image.0 queue told.0,
-      opened_is_at_rest log.uploads.uuid geometry checkpoint number end image.0 queue told.0 some from list.frontier known inside
-          table told.1 limits image.1,
-      list_shows uuid geometry checkpoint number end log list order inside image.0 image.2 told.0,
-      opened_shows_table log.uploads.uuid geometry checkpoint number end image.0 queue told.0 some from list.frontier known inside
-          table told.1,
+      opened_after geometry chain checkpoint number end image.0 queue told.0,
+      refl,
+      opened_is_at_rest log.uploads.uuid geometry chain checkpoint number end image.0 queue told.0 some from list.frontier known
+          inside table told.1 limits image.1,
+      list_shows uuid geometry chain checkpoint number end log list order inside image.0 image.2 told.0,
+      opened_shows_table log.uploads.uuid geometry chain checkpoint number end image.0 queue told.0 some from list.frontier known
+          inside table told.1,
     )

@@ -129,6 +129,7 @@ pub recovered_shows_objects : RecoveredShowsObjects
 recovered_shows_objects uuid data_at size plain number objects log valid has list recovered =
     record {
       geometry = list.geometry_is;
+      ancestors = list.ancestors_are;
       stream = recovered.streams.of_stream data_at;
       window = list.window ∙ ap (λ n. record { last = n; objects = [] }) recovered.number_is;
       image = subst (λ i. HasImage i log.uploads.queue) (sym (cut_image plain number)) recovered.streams.image;

@@ -26,6 +26,7 @@ use Rattle.plain_disk.specs.declared.log.PlainCommit.{PlainCommit}
 use Rattle.plain_disk.specs.State.{stream_in, PlainState}
 use Rattle.plain_disk.specs.Valid.{IsPlainVolume}
 use Rattle.refine_log.proofs.Following.{Reaches, reach_used}
+use Rattle.stopped_volume.specs.Ancestors.{uuid_in_chain}
 use Rattle.stopped_volume.specs.Device.{CacheOwner}
 use Rattle.refine_log.specs.Stops.{entries_past, HasCommit}
 use Rattle.refine_log.proofs.EntryLemmas.{past_first}
@@ -40,9 +41,9 @@ use Rattle.refine_mount.proofs.GoingLemmas.{mounted_is_plain_volume, mounted_is_
 -- ---- a plain volume
 
 mounted_is_valid : (uuid : List ℕ) (owner : CacheOwner) (plain : PlainState) (found : PlainCommit) (number : ℕ)
-    (objects : Objects)
-    (left : List ℕ)
-    → IsPlainVolume plain → HasObjects uuid plain number objects → HasCommit owner plain found (end_of_object number plain) left
+    (objects : Objects) (left : List ℕ)
+    → IsPlainVolume plain → HasObjects uuid plain number objects
+    → HasCommit owner plain found (end_of_object number plain) left
     → IsPlainVolume (mounted_with found number plain)
 mounted_is_valid uuid owner plain found number objects left valid has_objects has =
     let geometry : Geometry = plain.geometry in
@@ -115,7 +116,8 @@ mounted_has_objects : (uuid : List ℕ) (plain : PlainState) (found : PlainCommi
     → IsPlainVolume plain → IsPlainVolume (mounted_with found number plain) → HasObjects uuid plain number objects
     → HasObjects uuid (mounted_with found number plain) number objects
 mounted_has_objects uuid plain found number objects plain_is valid has =
-    let volume : Expected = expected_of uuid plain.geometry in
+    let volume : Expected = expected_of uuid plain.geometry (length plain.chain) in
+    let uuid_at = uuid_in_chain uuid plain.chain in
     let stored = has.stored.stored in
     let n : ℕ = number - plain.number in
     let many : ℕ = max (end_of_object number plain) found.head.seq - plain.end in
@@ -124,7 +126,6 @@ mounted_has_objects uuid plain found number objects plain_is valid has =
     let opening = (stream_in plain).opening in
     let count = length-take-le n plain.objects (omega (arith, last)) in
     record {
-      uuid_at = has.uuid_at;
       opened = has.opened;
       window = refl;
       pins = refl;
@@ -146,11 +147,11 @@ mounted_has_objects uuid plain found number objects plain_is valid has =
           checkpoints = stored.checkpoints;
           missing = stored.missing;
           base = stored.base;
-          opens = record { is = stored.opens.is; value = stored.opens.value };
+          opens = record { is = stored.opens.is; value = stored.opens.value; inherited = stored.opens.inherited };
           last = omega (arith, count);
           stored =
-              subst (AreStored objects has.uuid_at volume plain.number plain.end (take many plain.entries) opening) (sym same)
-              (stored_cut objects has.uuid_at volume plain.number plain.end many plain.entries opening (take n plain.objects)
+              subst (AreStored objects uuid_at volume plain.number plain.end (take many plain.entries) opening) (sym same)
+              (stored_cut objects uuid_at volume plain.number plain.end many plain.entries opening (take n plain.objects)
               (follow_first plain.end n plain.objects has.stored.valid.ends) (omega arith) stored.stored);
           past = stored.past;
         };

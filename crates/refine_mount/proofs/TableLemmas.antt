@@ -1,6 +1,6 @@
 -- The table of a list that was recovered shows what a mount makes of a plain volume, and goes on showing it with entries more.
 use Rattle.std.proofs.Common.{◌≡◌, ℕ, ◌-◌, ◌<◌, ◌≤◌, ◌&&◌, not, nat_lt, Bool, true, false, Option, Some, None, List, []}
-use Rattle.std.proofs.Common.{◌∷◌, take, get_or, refl, sym, ◌∙◌, ap, subst, arith}
+use Rattle.std.proofs.Common.{◌∷◌, length, take, get_or, refl, sym, ◌∙◌, ap, subst, arith}
 use Rattle.std.specs.Prelude.{IfSome, IsTrue, ◌↔◌}
 use Rattle.std.specs.List.{All}
 use Rattle.std.proofs.lemmas.Bool.Decides.{nat_tests}
@@ -129,7 +129,8 @@ pub recovered_shows_table : RecoveredShowsTable
 recovered_shows_table uuid size plain number objects log valid has list last order table knows keeps =
     let rows = log.uploads.queue.maps.objects.rows in
     let stream = stream_in plain in
-    let first = subst (λ n. IsCheckpointOf (expected_of uuid plain.geometry) objects n stream.end stream.opening) (sym has.opened)
+    let volume = expected_of uuid plain.geometry (length plain.chain) in
+    let first = subst (λ n. IsCheckpointOf volume objects n stream.end stream.opening) (sym has.opened)
     has.stored.stored.opens.is.checkpoint in
     let frontier : frontier_of plain ≡ number = ap below_open has.window in
     record {
@@ -143,10 +144,9 @@ recovered_shows_table uuid size plain number objects log valid has list last ord
       copied = λ other. none_copied rows other (row_of other rows) refl table.not_copied;
       held = λ other. row_held (row_of other rows) _ (has.holds.same other) (keeps.says other);
       payload = λ other.
-          row_payload (HasPayloadThere (expected_of uuid plain.geometry) objects other) (row_of other rows)
+          row_payload (HasPayloadThere volume objects other) (row_of other rows)
           (payload_of (mounted_without size number plain) other)
-          (live_payload log.uploads.uuid (expected_of uuid plain.geometry) objects plain.checkpoint.number log.uploads.queue
-          order.known knows other)
+          (live_payload log.uploads.uuid volume objects plain.checkpoint.number log.uploads.queue order.known knows other)
           (λ row at there.
           let within = found_holds (λ (r : ObjectRow). r.number ≤ log.uploads.queue.frontier) other rows row at order.known.within
           in

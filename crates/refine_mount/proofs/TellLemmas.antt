@@ -110,7 +110,7 @@ rows_tell checkpoint queue order past = record {
 
 -- what a map may have at a sector of the volume
 abbrev StandsInside : (sectors k : ℕ) → QueueState → ObjectPlace → Type 0
-StandsInside sectors k queue place = (k < sectors) × (place.level ≡ 0) × IsInsideObject (stored_at queue place) place.sector
+StandsInside sectors k queue place = (k < sectors) × IsInsideObject (stored_at queue place) place.sector
 
 -- the owners that the objects' map gives
 abbrev pub held_owners : (sectors : ℕ) → QueueState → List (Option Owner)

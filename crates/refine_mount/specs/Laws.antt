@@ -1,6 +1,7 @@
 -- Contract: what a mount finds and does makes of a plain volume what a mount of it is to make.
 use Rattle.std.specs.Prelude.{◌≡◌, ℕ, ◌+◌, ◌<◌, ◌≤◌, true, None, IsTrue, IfSome, List, ◌∷◌, length, map, max}
 use Rattle.std.specs.List.{All}
+use Rattle.clone_chain.specs.declared.ancestor.Ancestor.{Ancestor}
 use Rattle.lsvd_base.specs.declared.entry.Entry.{Entry}
 use Rattle.lsvd_base.specs.declared.geometry.Geometry.{Geometry}
 use Rattle.lsvd_base.specs.Limits.{is_within_limits}
@@ -37,11 +38,10 @@ use Rattle.refine_objects.specs.Table.{ShowsTable}
 use Rattle.refine_log.specs.Stops.{HasCommitted, entries_past, HasCommit}
 use Rattle.refine_log.specs.StopLaws.{ShowsStops}
 use Rattle.refine_log.specs.Pending.{ShowsPending}
-use Rattle.object_recovery.specs.Checkpoints.{expected_of}
 use Rattle.object_recovery.specs.Recovery.{IsListUpTo, HasRecovered}
 use Rattle.object_recovery.specs.Places.{HasPlacesInside}
 use Rattle.object_recovery.specs.Table.{HasTableFrom, KnowsObjects, KnowsHolds}
-use Rattle.refine_mount.specs.Found.{HasObjects}
+use Rattle.refine_mount.specs.Found.{expected_for, HasObjects}
 use Rattle.refine_mount.specs.Mounted.{end_of_object, mounted_with, sizes_with, mounted_without, log_found, committed_at}
 use Rattle.refine_mount.specs.Mounted.{going_on, data_in, AddsEntries}
 use Rattle.refine_mount.specs.Stops.{StopKeepsMount}
@@ -73,17 +73,18 @@ FoundHasCommit =
 -- the volume that a mount without the cache makes is at rest, whatever log its sizes keep their limits with
 abbrev pub MountedIsAtRest : Type 0
 MountedIsAtRest =
-    (uuid : List ℕ) (log : ℕ) (plain : PlainState) (number : ℕ) (objects : Objects) → IsPlainVolume plain
-    → HasObjects uuid plain number objects → IsTrue (is_within_limits (sizes_with log plain.geometry))
+    (uuid : List ℕ) (log : ℕ) (plain : PlainState) (number : ℕ) (objects : Objects)
+    → IsPlainVolume plain → HasObjects uuid plain number objects → IsTrue (is_within_limits (sizes_with log plain.geometry))
     → IsAtRest (sizes_with log plain.geometry) plain.checkpoint.number (end_of_object number plain)
     (mounted_without log number plain)
 
 -- and a list that was recovered of its objects shows it
 abbrev pub RecoveredShowsObjects : Type 0
 RecoveredShowsObjects =
-    (uuid : List ℕ) (data_at : ℕ → ℕ) (size : ℕ) (plain : PlainState) (number : ℕ) (objects : Objects) (log : ObjLogState)
+    (uuid : List ℕ) (data_at : ℕ → ℕ) (size : ℕ) (plain : PlainState) (number : ℕ) (objects : Objects)
+    (log : ObjLogState)
     → IsPlainVolume plain → HasObjects uuid plain number objects
-    → IsListUpTo uuid (sizes_with size plain.geometry) log.uploads.window.last log.uploads.queue.end log
+    → IsListUpTo uuid (sizes_with size plain.geometry) (length plain.chain) log.uploads.window.last log.uploads.queue.end log
     → HasRecovered plain.opening (stream_in plain) number log
     → ShowsObjects data_at log (mounted_without size number plain)
 
@@ -92,21 +93,22 @@ abbrev pub RecoveredShowsTable : Type 0
 RecoveredShowsTable =
     (uuid : List ℕ) (size : ℕ) (plain : PlainState) (number : ℕ) (objects : Objects) (log : ObjLogState)
     → IsPlainVolume plain → HasObjects uuid plain number objects
-    → IsListUpTo uuid (sizes_with size plain.geometry) log.uploads.window.last log.uploads.queue.end log
+    → IsListUpTo uuid (sizes_with size plain.geometry) (length plain.chain) log.uploads.window.last log.uploads.queue.end log
     → log.uploads.window.last ≡ number → IsUploads log.uploads → HasTableFrom plain.checkpoint.number log.uploads.queue
-    → KnowsObjects (expected_of uuid plain.geometry) objects plain.checkpoint.number log.uploads.queue
-    → KnowsHolds (expected_of uuid plain.geometry) objects log.uploads.queue
+    → KnowsObjects (expected_for uuid plain) objects plain.checkpoint.number log.uploads.queue
+    → KnowsHolds (expected_for uuid plain) objects log.uploads.queue
     → ShowsTable log.uploads.queue (mounted_without size number plain)
 
--- each list that was recovered shows some plain volume that is at rest, with its table, also where no bytes are told
+-- each list that was recovered shows some plain volume of this chain that is at rest, with its table, also where no bytes are
+-- told
 abbrev pub ListShowsSome : Type 0
 ListShowsSome =
-    (uuid : List ℕ) (geometry : Geometry) (checkpoint number end : ℕ) (log : ObjLogState)
+    (uuid : List ℕ) (geometry : Geometry) (chain : List Ancestor) (checkpoint number end : ℕ) (log : ObjLogState)
     → IsTrue (is_within_limits geometry) → 0 < checkpoint → checkpoint ≤ number
-    → IsListUpTo uuid geometry number end log → IsUploads log.uploads → HasPlacesInside geometry.sectors log.uploads.queue
-    → HasTableFrom checkpoint log.uploads.queue
-    → (plain : PlainState) × IsAtRest geometry checkpoint end plain × ((data_at : ℕ → ℕ) → ShowsObjects data_at log plain)
-    × ShowsTable log.uploads.queue plain
+    → IsListUpTo uuid geometry (length chain) number end log → IsUploads log.uploads
+    → HasPlacesInside geometry.sectors log.uploads.queue → HasTableFrom checkpoint log.uploads.queue
+    → (plain : PlainState) × (plain.chain ≡ chain) × IsAtRest geometry checkpoint end plain
+    × ((data_at : ℕ → ℕ) → ShowsObjects data_at log plain) × ShowsTable log.uploads.queue plain
 
 -- where a list shows a volume at rest, it shows that with some entries more once they were added, whatever its log is
 abbrev pub EntriesGoOn : Type 0
@@ -181,8 +183,8 @@ MountedIsPlainVolume =
 -- where the bytes of a device read as a commit of a plain volume, that is what a mount is to make of it
 abbrev pub MountedIsGoingOn : Type 0
 MountedIsGoingOn =
-    (uuid : List ℕ) (owner : CacheOwner) (plain : PlainState) (found : PlainCommit) (number : ℕ) (objects : Objects)
-    (left : List ℕ)
+    (uuid : List ℕ) (owner : CacheOwner) (plain : PlainState) (found : PlainCommit) (number : ℕ)
+    (objects : Objects) (left : List ℕ)
     → IsPlainVolume plain → HasObjects uuid plain number objects
     → (has : HasCommit owner plain found (end_of_object number plain) left)
     → going_on (entries_past plain (end_of_object number plain) has.body.head.seq)
@@ -216,9 +218,10 @@ LosesAgain =
 -- The volume that is mounted is a plain one, which the same store has. So what a stop leaves of it may be mounted again.
 abbrev pub MountedIsStored : Type 0
 MountedIsStored =
-    (uuid : List ℕ) (owner : CacheOwner) (plain : PlainState) (found : PlainCommit) (number : ℕ) (objects : Objects)
-    (left : List ℕ)
-    → IsPlainVolume plain → HasObjects uuid plain number objects → HasCommit owner plain found (end_of_object number plain) left
+    (uuid : List ℕ) (owner : CacheOwner) (plain : PlainState) (found : PlainCommit) (number : ℕ)
+    (objects : Objects) (left : List ℕ)
+    → IsPlainVolume plain → HasObjects uuid plain number objects
+    → HasCommit owner plain found (end_of_object number plain) left
     → IsPlainVolume (mounted_with found number plain) × HasObjects uuid (mounted_with found number plain) number objects
 
 -- ---- stops

@@ -13,7 +13,7 @@ use Rattle.object_uploads.specs.Order.{IsUploads}
 use Rattle.object_uploads.specs.Changes.{index_of, IsSealedNext, with_job, IsPutDone}
 use Rattle.object_uploads.specs.Image.{TellAlike}
 use Rattle.object_uploads.specs.Invariant.{IsOpenAt}
-use Rattle.object_uploads.specs.Receipts.{AllTell, AllSealedTell}
+use Rattle.object_uploads.specs.Receipts.{AllTell, AllInheritedTell, AllSealedTell}
 use Rattle.object_uploads.specs.Removal.{with_receipt_of, TakesRemoval, TakesBackRemoval}
 use Rattle.object_uploads.specs.declared.rows.SealedRows.{SealedRows}
 use Rattle.object_uploads.proofs.OpenLemmas.{started_at}
@@ -26,10 +26,11 @@ SealedTells tells sealed = IfSome sealed.receipt (λ (receipt : ReceiptState). i
 
 -- ---- the same receipts
 
-pub same_alike : (tells : Bool) (old new : QueueState) → new.receipts ≡ old.receipts → new.sealed ≡ old.sealed
-    → TellAlike tells new → TellAlike tells old
-same_alike tells old new receipts sealed alike = record {
+pub same_alike : (tells : Bool) (old new : QueueState) → new.receipts ≡ old.receipts → new.inherited ≡ old.inherited
+    → new.sealed ≡ old.sealed → TellAlike tells new → TellAlike tells old
+same_alike tells old new receipts inherited sealed alike = record {
   known = subst (λ list. AllTell tells list) receipts alike.known;
+  inherited = subst (λ list. AllInheritedTell tells list) inherited alike.inherited;
   sealed = subst (λ list. AllSealedTell tells list) sealed alike.sealed;
 }
 
@@ -44,6 +45,7 @@ pub sealed_alike : (tells : Bool) (bytes : List ℕ) (rows : SealedRows) (end : 
     → IsSealedNext bytes rows end old new → TellAlike tells new.queue → TellAlike tells old.queue
 sealed_alike tells bytes rows end old new sealed alike = record {
   known = subst (λ list. AllTell tells list) sealed.settled.receipts alike.known;
+  inherited = subst (λ list. AllInheritedTell tells list) sealed.settled.inherited alike.inherited;
   sealed = first_of_more (SealedTells tells) old.queue.sealed _
       (subst (λ list. AllSealedTell tells list) sealed.sealed alike.sealed);
 }
@@ -58,6 +60,7 @@ pub job_alike : (tells started : Bool) (number : ℕ) (uploads : UploadsState)
     → TellAlike tells (with_job number started uploads).queue → TellAlike tells uploads.queue
 job_alike tells started number uploads alike = record {
   known = alike.known;
+  inherited = alike.inherited;
   sealed = without_spare tells _ (index_of uploads number) uploads.queue.sealed alike.sealed;
 }
 
@@ -116,6 +119,7 @@ done_alike tells number receipt old new is started done alike =
     let found = started_at number (old.queue.frontier + 1) old.queue.sealed old.window.objects is.opened started in
     record {
       known = first_part (Tells tells) old.queue.receipts settled known;
+      inherited = subst (λ list. AllInheritedTell tells list) done.settled.inherited alike.inherited;
       sealed = before_given tells index receipt old.queue.sealed found.1
           (whole_tells (SealedTells tells) done.count given
           (settled_tell tells old.queue.frontier (take done.count given)
@@ -164,5 +168,6 @@ pub back_alike : (tells : Bool) (number : ℕ) (receipt : ReceiptState) (old new
 back_alike tells number receipt old new back alike = record {
   known = before_with (Tells tells) number receipt old.queue.receipts
       (subst (λ list. AllTell tells list) back.receipts alike.known);
+  inherited = subst (λ list. AllInheritedTell tells list) back.rest.inherited alike.inherited;
   sealed = subst (λ list. AllSealedTell tells list) back.rest.sealed alike.sealed;
 }

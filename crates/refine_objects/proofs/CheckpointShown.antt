@@ -73,6 +73,7 @@ module _ (data_at : ℕ → ℕ) (old new : ObjLogState) (plain : PlainState) (u
       new.uploads refl sealed.sealed in
       record {
         geometry = ap (λ (b : BatchState). b.geometry) batch ∙ was.geometry;
+        ancestors = sealed.sealed.ancestors ∙ was.ancestors;
         stream = sealing_checkpoint_keeps_stream data_at (stream_in plain) old new uploads was.stream sealed batch;
         window = sealed.sealed.window ∙ ap (λ (w : WindowState). entered (w.last + 1) true w) was.window;
         image = subst (λ image. HasImage image new.uploads.queue) (sym (image_same plain valid))

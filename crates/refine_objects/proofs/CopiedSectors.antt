@@ -34,7 +34,7 @@ use Rattle.object_uploads.specs.Image.{HoldsSector, GivesSector, HasImage}
 use Rattle.object_uploads.specs.Collection.{IsStoredSource}
 use Rattle.object_uploads.proofs.StoredLemmas.{first_receipt}
 use Rattle.object_uploads.proofs.TellLemmas.{Tells}
-use Rattle.plain_disk.proofs.CheckpointLemmas.{same_number}
+use Rattle.plain_disk.proofs.CheckpointLemmas.{both_true, same_number}
 use Rattle.refine_objects.specs.Plan.{IsPlanOf}
 use Rattle.refine_objects.proofs.MarkShown.{contained_in}
 use Rattle.refine_objects.proofs.PlanSources.{pair_source}
@@ -147,6 +147,10 @@ receipt_of (Some receipt) (Some row) object is =
     let same : object ≡ record { receipt = receipt; front = row.front } = cc in
     ap (λ (o : StoredObject). Some o.receipt) (sym same)
 
+-- the place of a live sector is one of the volume's own objects
+own_level : (n : ℕ) (place : ObjectPlace) → IsTrue (is_live n (Some place)) → place.level ≡ 0
+own_level n place live = same_number place.level 0 (both_true (place.level == 0) (place.number == n) live).0
+
 -- ---- the sectors
 
 module _ (geometry : Geometry) (queue : QueueState) (pairs : List CopiedSector) (plan : PlanState) (copied : CopiedState)
@@ -156,17 +160,19 @@ module _ (geometry : Geometry) (queue : QueueState) (pairs : List CopiedSector) 
   -- the image's sector is where the map has it, which is where the rows have it from
   held_at : (k n : ℕ) (sector : List ℕ) (place : ObjectPlace) (source : SourceState) (bytes : List ℕ)
       → source_place_at plan.rows k ≡ Some place → place.number ≡ n → settled_at queue.maps k ≡ source_place_at plan.rows k
-      → source.number ≡ n → IsStoredSource queue source → source.receipt.told ≡ Some bytes
-      → slice_get image k ≡ Some sector → sector_of (source.front + place.sector) bytes ≡ sector
-  held_at k n sector place source bytes there named settled own stored told at =
+      → IsTrue (is_live n (settled_at queue.maps k)) → source.number ≡ n → IsStoredSource queue source
+      → source.receipt.told ≡ Some bytes → slice_get image k ≡ Some sector
+      → sector_of (source.front + place.sector) bytes ≡ sector
+  held_at k n sector place source bytes there named settled live own stored told at =
+      let level = own_level n place (subst (λ p. IsTrue (is_live n p)) (settled ∙ there) live) in
       let holds : HoldsSector queue (Some place) sector =
       subst (λ p. HoldsSector queue p sector) (settled ∙ there) (has k sector at) in
       let object : StoredObject = record { receipt = source.receipt; front = source.front } in
       let found : stored_at queue place ≡ Some object =
-      ap (λ l. stored_of queue (record { level = l; number = place.number })) holds.0
+      ap (λ l. stored_of queue (record { level = l; number = place.number })) level
       ∙ (ap (λ m. stored_of queue (record { level = 0; number = m })) (named ∙ sym own) ∙ stored) in
       let gives : GivesSector (Some object) place.sector sector =
-      subst (λ f. GivesSector f place.sector sector) found holds.1 in
+      subst (λ f. GivesSector f place.sector sector) found holds in
       subst (λ t. IfSome t (λ b. sector_of (source.front + place.sector) b ≡ sector)) told gives.1
 
   pub live_sectors_copied : (k n : ℕ) (sector : List ℕ) → source_at plan.rows k ≡ Some n
@@ -180,7 +186,8 @@ module _ (geometry : Geometry) (queue : QueueState) (pairs : List CopiedSector) 
       (record { receipt = source.0.receipt; front = source.0.front }) stored in
       let told = some_told source.0.receipt.told (told_by source.0.number queue.receipts source.0.receipt all receipt) in
       let place = some_place plan.rows k n at in
-      let same = held_at k n sector place.0 source.0 told.0 place.1 place.2 (is.places k n at live) source.2 stored told.1 held in
+      let same = held_at k n sector place.0 source.0 told.0 place.1 place.2 (is.places k n at live) live source.2 stored told.1
+      held in
       copied_of plan.sources copied.payload told.0 source.0 k n place.0 plan.rows source.1 source.2 told.1
       copy.payload.contents at place.1
       ∙ ap (λ s. Some s) same

@@ -62,17 +62,20 @@ module _ (plain : PlainState) (number : ℕ) (h : MayFold plain number) where
       (entries_of_fold plain number h (end_at stream (other - 1)) grown))
 
   placed_by : (k : ℕ) (found : Option ObjectPlace)
-      → IfSome found (λ (place : ObjectPlace). place.number ≤ number → IsPlacedIn stream k place)
+      → IfSome found (λ (place : ObjectPlace). (place.level ≡ 0 → place.number ≤ number) → IsPlacedIn stream k place)
       → IfSome found (IsPlacedIn folded k) → IfSome found (IsPlacedIn stream k)
   placed_by k None first later = tt
-  placed_by k (Some place) first later = λ own past.
-      elim (cases_lt number place.number) [
-        | inl above ↦
-            subst (λ o. IsPlaceIn place.sector k (entries_in_object stream place.number) o) (same_of_fold place.number above)
-            (subst (λ (entries : List Entry). IsPlaceIn place.sector k entries (object_at folded place.number))
-            (object_of_fold place.number above) (later own above))
-        | inr low ↦ first low own past
-      ]
+  placed_by k (Some place) first later = (
+    λ own past.
+        elim (cases_lt number place.number) [
+          | inl above ↦
+              subst (λ o. IsPlaceIn place.sector k (entries_in_object stream place.number) o) (same_of_fold place.number above)
+              (subst (λ (entries : List Entry). IsPlaceIn place.sector k entries (object_at folded place.number))
+              (object_of_fold place.number above) (later.0 own above))
+          | inr low ↦ (first (λ level. low)).0 own past
+        ],
+    later.1,
+  )
 
   -- the image up to the frontier's end
   image_of_fold : settled_image (folded_to number plain) ≡ settled_image plain
@@ -135,6 +138,7 @@ shown_from_first data_at list plain number valid from to none first shows =
     } in
     record {
       geometry = shows.geometry;
+      ancestors = shows.ancestors;
       stream = record {
         objects = objects;
         sectors = shows.stream.sectors;

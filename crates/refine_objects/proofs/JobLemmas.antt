@@ -71,6 +71,7 @@ job_shows data_at objects plain number started shows =
     let same = ap (λ n. after plain.opening (take (end_at (stream_in plain) n - plain.end) plain.entries)) frontier in
     record {
       geometry = shows.geometry;
+      ancestors = shows.ancestors;
       stream = jobs_keep_stream data_at (stream_in plain) objects number started shows.stream;
       window = ap (marked number started) shows.window;
       image =
@@ -202,6 +203,7 @@ module _ (data_at : ℕ → ℕ) (old new : ObjLogState) (plain : PlainState) (n
       let image = ap (after (settled_image plain)) part_is ∙ image_is in
       record {
         geometry = ap (λ (b : BatchState). b.geometry) batch ∙ shows.geometry;
+        ancestors = done.ancestors ∙ shows.ancestors;
         stream = stream_now;
         window = done.window ∙ ap (acknowledged number) shows.window;
         image = subst (λ image. HasImage image new.uploads.queue) image first_made.0;
@@ -214,6 +216,7 @@ with_other_checkpoint : (data_at : ℕ → ℕ) (objects : ObjLogState) (plain :
     → ShowsObjects data_at objects plain → ShowsObjects data_at objects (record plain { checkpoint = checkpoint })
 with_other_checkpoint data_at objects plain checkpoint shows = record {
   geometry = shows.geometry;
+  ancestors = shows.ancestors;
   stream = shows.stream;
   window = shows.window;
   image = shows.image;

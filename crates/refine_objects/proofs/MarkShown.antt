@@ -11,7 +11,7 @@ use Rattle.object_table.specs.declared.row.ObjectRow.{ObjectRow}
 use Rattle.object_table.specs.Table.{row_of, live_in, live_of, copied}
 use Rattle.volume_maps.proofs.RowsLemmas.{is_in}
 use Rattle.object_uploads.specs.State.{StoredObject, QueueState, UploadsState}
-use Rattle.object_uploads.specs.Queue.{receipt_in, stored_with, stored_of}
+use Rattle.object_uploads.specs.Queue.{receipt_in, stored_with, inherited_in, stored_of}
 use Rattle.object_uploads.specs.Order.{IsUploads}
 use Rattle.object_uploads.specs.Collection.{marked, marked_in}
 use Rattle.object_uploads.proofs.PinsOf.{row_changed}
@@ -78,6 +78,11 @@ module _ (is_copied : Bool) where
   marked_receipts [] queue = refl
   marked_receipts (first ∷ numbers) queue = marked_receipts numbers (marked is_copied first queue)
 
+  pub marked_inherited : (numbers : List ℕ) (queue : QueueState)
+      → (marked_in is_copied numbers queue).inherited ≡ queue.inherited
+  marked_inherited [] queue = refl
+  marked_inherited (first ∷ numbers) queue = marked_inherited numbers (marked is_copied first queue)
+
   pub marked_removal : (numbers : List ℕ) (queue : QueueState)
       → (marked_in is_copied numbers queue).removal ≡ queue.removal
   marked_removal [] queue = refl
@@ -122,7 +127,11 @@ module _ (is_copied : Bool) where
       (row_of owner.number (marked_in is_copied numbers queue).maps.objects.rows)) (marked_receipts numbers queue)
       ∙ (ap (stored_with (receipt_in queue.receipts owner.number)) (marked_row numbers queue owner.number)
       ∙ stored_by (is_in numbers owner.number) (receipt_in queue.receipts owner.number) found) in
-      ap (λ (s : Option StoredObject). cond (owner.level == 0) s None) own
+      let inherited : inherited_in (marked_in is_copied numbers queue).inherited owner ≡ inherited_in queue.inherited owner =
+      ap (λ list. inherited_in list owner) (marked_inherited numbers queue) in
+      ap (λ (s : Option StoredObject). cond (owner.level == 0) s (inherited_in (marked_in is_copied numbers queue).inherited
+      owner)) own
+      ∙ ap (cond (owner.level == 0) (stored_with (receipt_in queue.receipts owner.number) found)) inherited
 
   -- ---- the table
 

@@ -216,8 +216,8 @@ pinned_shows_pin data_at old new plain number k was now valid shows reads change
       objects =
           with_others data_at new plain plain.checkpoint plain.plan pins plain.removed plain.given_out plain.removal
           (table_changed data_at old new plain changed_pins.rest batch kept
-          (λ tells. same_alike tells old.uploads.queue new.uploads.queue changed_pins.receipts changed_pins.rest.sealed)
-          shows.objects);
+          (λ tells. same_alike tells old.uploads.queue new.uploads.queue changed_pins.receipts changed_pins.rest.inherited
+          changed_pins.rest.sealed) shows.objects);
       table =
           shown_by_rows live new.uploads.queue after (changed_pins.removal ∙ shows.table.removal)
           (free_by number plain.pins plain.removal queue.maps dead shows.table.free apart)
@@ -260,8 +260,8 @@ unpinned_shows_unpin data_at old new plain number was shows changed_pins batch =
       objects =
           with_others data_at new plain plain.checkpoint plain.plan pins plain.removed plain.given_out plain.removal
           (table_changed data_at old new plain changed_pins.rest batch kept
-          (λ tells. same_alike tells old.uploads.queue new.uploads.queue changed_pins.receipts changed_pins.rest.sealed)
-          shows.objects);
+          (λ tells. same_alike tells old.uploads.queue new.uploads.queue changed_pins.receipts changed_pins.rest.inherited
+          changed_pins.rest.sealed) shows.objects);
       table =
           shown_by_rows live new.uploads.queue after (changed_pins.removal ∙ shows.table.removal)
           (free_yet number plain.pins plain.removal shows.table.free)

@@ -170,12 +170,14 @@ module _ (data_at : ℕ → ℕ) (old sealed : ObjLogState) (plain : PlainState)
       let object = just_sealed has.bytes (sealed_rows.Copy has.rows) end in
       record {
         geometry = ap (λ (b : BatchState). b.geometry) has.batch ∙ was.geometry;
+        ancestors = has.uploads.ancestors ∙ was.ancestors;
         stream =
             sealing_copy_keeps_stream data_at (stream_in plain) old sealed pairs has.bytes has.rows is was.stream
             (has.holds pairs takes) has.uploads has.batch;
         window = has.uploads.window ∙ ap (λ (w : WindowState). entered (w.last + 1) false w) was.window;
         image = subst (λ image. HasImage image sealed.uploads.queue) (sym (image_same pairs plain valid))
-            (λ k sector at. rw (settled.places.settled, settled.places.objects, settled.receipts) (was.image k sector at));
+            (λ k sector at. rw (settled.places.settled, settled.places.objects, settled.receipts, settled.inherited)
+            (was.image k sector at));
         receipts = rw has.uploads.sealed (all_more IsOwn queue.sealed object tt was.receipts);
         copied = λ tells alike.
             (let before = sealed_alike tells has.bytes (sealed_rows.Copy has.rows) end old.uploads sealed.uploads has.uploads

@@ -47,7 +47,7 @@ use Rattle.refine_objects.specs.Plan.{IsPlanOf, ShowsPlan}
 use Rattle.refine_objects.specs.PlanLaws.{ShownPlacesAreInside, PlannedShowsPlan, NoneShowsNoPlan}
 use Rattle.refine_objects.proofs.AlikeLemmas.{same_alike}
 use Rattle.refine_objects.proofs.JobLemmas.{settled_size}
-use Rattle.refine_objects.proofs.MarkShown.{contained_in, in_contained, marked_receipts}
+use Rattle.refine_objects.proofs.MarkShown.{contained_in, in_contained, marked_receipts, marked_inherited}
 use Rattle.refine_objects.proofs.MarkShown.{marked_sealed, marked_settled, marked_frontier}
 use Rattle.refine_objects.proofs.MarkShown.{marked_stored, marked_table}
 use Rattle.refine_objects.proofs.PlanSources.{source_row, row_source, pair_source, planned_source, lists_apart, of_planned}
@@ -69,7 +69,7 @@ held_inside queue None place sector is holds = absurd cc
 held_inside queue (Some other) place sector is holds =
     let same : other ≡ place = cc in
     subst (λ (p : ObjectPlace). IsInsideObject (stored_at queue p) p.sector) same
-    (inside_by (stored_at queue other) other.sector sector holds.1)
+    (inside_by (stored_at queue other) other.sector sector holds)
 
 module _ (data_at : ℕ → ℕ) (list : ObjLogState) (plain : PlainState) (is : IsUploads list.uploads)
     (valid : IsPlainVolume plain) (shows : ShowsObjects data_at list plain) where
@@ -81,9 +81,9 @@ module _ (data_at : ℕ → ℕ) (list : ObjLogState) (plain : PlainState) (is :
   sectors_are = shows.stream.sectors ∙ ap (λ (g : Geometry). g.sectors) shows.geometry
 
   pub place_fits : (k : ℕ) (place : ObjectPlace) → settled_at queue.maps k ≡ Some place
-      → PlaceFits list.uploads.sectors queue.frontier k place
+      → PlaceFits list.uploads.sectors list.uploads.ancestors queue.frontier k place
   place_fits k place at =
-      subst (λ found. IfSome found (PlaceFits list.uploads.sectors queue.frontier k)) at (is.places k)
+      subst (λ found. IfSome found (PlaceFits list.uploads.sectors list.uploads.ancestors queue.frontier k)) at (is.places k)
 
 pub shown_places_are_inside : ShownPlacesAreInside
 shown_places_are_inside data_at list plain is valid shows k place at =
@@ -97,10 +97,10 @@ shown_places_are_inside data_at list plain is valid shows k place at =
 
 -- ---- the rows of the table
 
-inside_volume : (sectors volume frontier k : ℕ) (found : Option ObjectPlace) → sectors ≡ volume
-    → IfSome found (PlaceFits sectors frontier k) → IfSome found (λ (place : ObjectPlace). k < volume)
-inside_volume sectors volume frontier k None same fits = tt
-inside_volume sectors volume frontier k (Some place) same fits = omega (arith, fits.inside, same)
+inside_volume : (sectors ancestors volume frontier k : ℕ) (found : Option ObjectPlace) → sectors ≡ volume
+    → IfSome found (PlaceFits sectors ancestors frontier k) → IfSome found (λ (place : ObjectPlace). k < volume)
+inside_volume sectors ancestors volume frontier k None same fits = tt
+inside_volume sectors ancestors volume frontier k (Some place) same fits = omega (arith, fits.inside, same)
 
 pub rows_are : (data_at : ℕ → ℕ) (list : ObjLogState) (plain : PlainState) → IsUploads list.uploads → IsPlainVolume plain
     → ShowsBoth data_at list plain → RowsAre plain list.uploads.queue.maps
@@ -118,20 +118,21 @@ rows_are data_at list plain is valid shows =
       counts = is.known.counted;
       owned = λ k. shows.objects.stream.objects.settled k ∙ ap (λ n. owners (stream_in plain) n k) counts.frontier;
       inside = λ k.
-          inside_volume list.uploads.sectors plain.geometry.sectors queue.frontier k (settled_at queue.maps k) sectors
-          (is.places k);
+          inside_volume list.uploads.sectors list.uploads.ancestors plain.geometry.sectors queue.frontier k
+          (settled_at queue.maps k) sectors (is.places k);
       payload = shows.table.payload;
       held = shows.table.held;
     }
 
 -- ---- what is planned
 
-low_source : (frontier number k : ℕ) (found : Option ObjectPlace) (sectors : ℕ)
-    → IfSome found (PlaceFits sectors frontier k) → is_live number found ≡ true → number ≤ frontier
-low_source frontier number k None sectors fits live = absurd cc
-low_source frontier number k (Some place) sectors fits live =
+low_source : (frontier number k : ℕ) (found : Option ObjectPlace) (sectors ancestors : ℕ)
+    → IfSome found (PlaceFits sectors ancestors frontier k) → is_live number found ≡ true → number ≤ frontier
+low_source frontier number k None sectors ancestors fits live = absurd cc
+low_source frontier number k (Some place) sectors ancestors fits live =
     let both = both_true (place.level == 0) (place.number == number) live in
-    omega (arith, same_number place.number number both.1, fits.number)
+    let own = fits.number (same_number place.level 0 both.0) in
+    omega (arith, same_number place.number number both.1, own)
 
 module _ (data_at : ℕ → ℕ) (list : ObjLogState) (plain : PlainState) (is : IsUploads list.uploads)
     (valid : IsPlainVolume plain) (shows : ShowsBoth data_at list plain) (rows : List CopyRow)
@@ -193,7 +194,7 @@ module _ (data_at : ℕ → ℕ) (list : ObjLogState) (plain : PlainState) (is :
   copies_reach =
       subst (λ c. All (λ (pair : CopiedSector). pair.source ≤ uploads.queue.frontier) c) copies_are
       (planned_reaches uploads.queue.frontier live copies (λ n k among.
-      low_source uploads.queue.frontier n k (settled_at uploads.queue.maps k) uploads.sectors (is.places k)
+      low_source uploads.queue.frontier n k (settled_at uploads.queue.maps k) uploads.sectors uploads.ancestors (is.places k)
       (in_filter (λ i. is_live n (settled_at uploads.queue.maps i)) _ k among).1) (of_planned live plain.geometry.batch
       plans.victims))
 
@@ -230,7 +231,7 @@ marked_both data_at is_copied numbers old new plain plan is shows same reached u
           (table_changed data_at old now plain (marks_change_objects_alone is_copied numbers old.uploads) refl
           (marks_keep_image is_copied numbers old.uploads)
           (λ tells. same_alike tells queue (marked_in is_copied numbers queue) (marked_receipts is_copied numbers queue)
-          (marked_sealed is_copied numbers queue)) shows.objects);
+          (marked_inherited is_copied numbers queue) (marked_sealed is_copied numbers queue)) shows.objects);
       table = marked_table is_copied numbers old.uploads plain plan is shows.table same reached;
     })
 

@@ -426,7 +426,8 @@ finished_shows_removed data_at old new plain number was now shows out done batch
       objects =
           with_others data_at new plain plain.checkpoint plain.plan plain.pins removed plain.given_out None
           (table_changed data_at old new plain done.rest batch kept
-          (λ tells. same_alike tells old.uploads.queue new.uploads.queue done.receipts done.rest.sealed) shows.objects);
+          (λ tells. same_alike tells old.uploads.queue new.uploads.queue done.receipts done.rest.inherited done.rest.sealed)
+          shows.objects);
       table = shown_by_rows live new.uploads.queue after done.removal tt
           (λ n. rw done.rows (left_live number n queue.maps.objects.rows (number == n) was.known.order refl)) now_rows;
     } in

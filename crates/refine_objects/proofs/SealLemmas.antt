@@ -125,6 +125,7 @@ module _ (data_at : ℕ → ℕ) (old new : ObjLogState) (plain : PlainState) (u
       let stream = sealing_keeps_stream data_at (stream_in plain) old new uploads shows.stream sealed in
       record {
         geometry = sealed.geometry ∙ shows.geometry;
+        ancestors = sealed.uploads.ancestors ∙ shows.ancestors;
         stream = subst (λ end. IsOfStream data_at (with_data_object end (stream_in plain)) new) end_is stream;
         window = sealed.uploads.window ∙ ap (λ (w : WindowState). entered (w.last + 1) false w) shows.window;
         image = subst (λ image. HasImage image new.uploads.queue) (sym (image_same plain valid))

@@ -33,7 +33,7 @@ shown_have_counts data_at objects plain uploads valid shows =
     }
 
 pub new_shows_created : NewShowsCreated
-new_shows_created data_at objects geometry limits batch uploads sectors window frontier end sealed settled logged =
+new_shows_created data_at objects geometry limits batch uploads sectors ancestors window frontier end sealed settled logged =
     let first = ap (λ (b : BatchState). b.first) batch in
     let entries = ap (λ (b : BatchState). b.entries) batch in
     let geometry_is = ap (λ (b : BatchState). b.geometry) batch in
@@ -41,8 +41,9 @@ new_shows_created data_at objects geometry limits batch uploads sectors window f
     let has = new_list_has_blank objects geometry.sectors sealed settled in
     record {
       geometry = geometry_is;
-      stream = new_list_begins_stream data_at objects 1 0 (λ k. None) first entries sectors_are window frontier end sealed logged
-          uploads (λ k. rw settled refl);
+      ancestors = ancestors;
+      stream = new_list_begins_stream data_at objects 1 0 (λ k. None) (λ k. 0) first entries sectors_are window frontier end
+          sealed logged uploads (λ k. rw settled refl) (λ k. rw settled tt);
       window = window;
       image = has.0;
       receipts = has.1;
@@ -52,6 +53,7 @@ new_shows_created data_at objects geometry limits batch uploads sectors window f
 pub shown_with_other_cache : ShownWithOtherCache
 shown_with_other_cache data_at objects plain cache pins shows = record {
   geometry = shows.geometry;
+  ancestors = shows.ancestors;
   stream = shows.stream;
   window = shows.window;
   image = shows.image;
@@ -80,6 +82,7 @@ shown_with_other_places data_at other objects plain same shows =
     length-drop skipped plain.entries ∙ ap (λ e. length plain.entries - (e - plain.end)) (sym are.end) in
     record {
       geometry = shows.geometry;
+      ancestors = shows.ancestors;
       stream = record {
         objects = record {
           valid = are.valid;
@@ -106,13 +109,14 @@ room_shows_same data_at old new plain shows same =
     let kept = room_keeps_image old new same in
     record {
       geometry = same.geometry ∙ shows.geometry;
+      ancestors = same.uploads.ancestors ∙ shows.ancestors;
       stream = room_keeps_stream data_at (stream_in plain) old new shows.stream same;
       window = same.uploads.window ∙ shows.window;
       image = kept.image (settled_image plain) shows.image;
       receipts = kept.receipts shows.receipts;
       copied = λ tells alike. kept.copies tells (settled_image plain)
           (shows.copied tells (same_alike tells old.uploads.queue new.uploads.queue same.uploads.settled.receipts
-          same.uploads.sealed alike));
+          same.uploads.settled.inherited same.uploads.sealed alike));
     }
 
 pub added_shows_entry : AddedShowsEntry
@@ -123,6 +127,7 @@ added_shows_entry data_at old new plain entry uploads valid shows added =
     let same = take-append-le count plain.entries (entry ∷ []) within in
     record {
       geometry = added.geometry ∙ shows.geometry;
+      ancestors = added.ancestors ∙ shows.ancestors;
       stream = adding_keeps_stream data_at (stream_in plain) old new entry uploads shows.stream added;
       window = added.window ∙ shows.window;
       image = subst (λ entries. HasImage (after plain.opening entries) new.uploads.queue) (sym same)
@@ -131,5 +136,5 @@ added_shows_entry data_at old new plain entry uploads valid shows added =
       copied = λ tells alike.
           subst (λ entries. AreCopied tells (after plain.opening entries) new.uploads.queue) (sym same)
           (kept.copies tells (settled_image plain) (shows.copied tells (same_alike tells old.uploads.queue new.uploads.queue
-          added.entered.receipts added.entered.sealed alike)));
+          added.entered.receipts added.entered.inherited added.entered.sealed alike)));
     }

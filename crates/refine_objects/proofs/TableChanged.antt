@@ -24,6 +24,7 @@ pub with_others : (data_at : ℕ → ℕ) (objects : ObjLogState) (plain : Plain
     })
 with_others data_at objects plain checkpoint plan pins removed given_out removal shows = record {
   geometry = shows.geometry;
+  ancestors = shows.ancestors;
   stream = shows.stream;
   window = shows.window;
   image = shows.image;
@@ -38,6 +39,7 @@ pub table_changed : (data_at : ℕ → ℕ) (old new : ObjLogState) (plain : Pla
     → ShowsObjects data_at new plain
 table_changed data_at old new plain rest batch kept alike shows = record {
   geometry = ap (λ (b : BatchState). b.geometry) batch ∙ shows.geometry;
+  ancestors = rest.ancestors ∙ shows.ancestors;
   stream = removals_keep_stream data_at (stream_in plain) old new shows.stream rest batch;
   window = rest.window ∙ shows.window;
   image = kept.image (settled_image plain) shows.image;

@@ -41,7 +41,7 @@ abbrev pub NewShowsCreated : Type 0
 NewShowsCreated =
     (data_at : ℕ → ℕ) (objects : ObjLogState) (geometry : Geometry) → IsTrue (is_within_limits geometry)
     → objects.batch ≡ record { geometry = geometry; first = 0; entries = []; reserved = objects.batch.reserved }
-    → IsUploads objects.uploads → objects.uploads.sectors ≡ geometry.sectors
+    → IsUploads objects.uploads → objects.uploads.sectors ≡ geometry.sectors → objects.uploads.ancestors ≡ 0
     → objects.uploads.window ≡ record { last = 1; objects = [] } → objects.uploads.queue.frontier ≡ 1
     → objects.uploads.queue.end ≡ 0
     → objects.uploads.queue.sealed ≡ [] → objects.uploads.queue.maps.settled.rows ≡ [] → objects.uploads.queue.maps.log.rows ≡ []
@@ -62,13 +62,13 @@ ShownWithOtherPlaces =
 
 -- A list that shows what a plain volume becomes when the entries of its first objects are folded into its image, up to one that
 -- is not past the frontier, and of which no object is on its way, shows that plain volume, if its map has the sectors of those
--- objects where they have them.
+-- objects, and of ancestors', where they have them.
 abbrev pub ShownFromFirst : Type 0
 ShownFromFirst =
     (data_at : ℕ → ℕ) (list : ObjLogState) (plain : PlainState) (number : ℕ)
     → IsPlainVolume plain → plain.number ≤ number → number ≤ frontier_of plain → list.uploads.queue.sealed ≡ []
     → ((k : ℕ) → IfSome (settled_at list.uploads.queue.maps k) (λ (place : ObjectPlace).
-    place.number ≤ number → IsPlacedIn (stream_in plain) k place))
+    (place.level ≡ 0 → place.number ≤ number) → IsPlacedIn (stream_in plain) k place))
     → ShowsObjects data_at list (folded_to number plain) → ShowsObjects data_at list plain
 
 -- ---- the calls

@@ -15,9 +15,9 @@ use Rattle.object_uploads.specs.Collection.{IsStoredSource}
 use Rattle.plain_disk.specs.State.{PlainState}
 use Rattle.plain_disk.specs.Removals.{copies_from}
 
--- A plan takes just these sectors of a volume, each from its source, and no more of them than a batch has; and its objects are
--- just these sources, as they are in the store. A sector that the objects' map still has in its source is where the plan has it
--- from. The rows may stand in each object past the frontier.
+-- A plan takes just these sectors of a volume, each from its source, one of the volume's own objects, and no more of them than a
+-- batch has; and its objects are just these sources, as they are in the store. A sector that the objects' map still has in its
+-- source is where the plan has it from. The rows may stand in each object past the frontier.
 pub record IsPlanOf (geometry : Geometry) (queue : QueueState) (pairs : List CopiedSector) (plan : PlanState) : Type 0 where
   pub takes : (k : ℕ) → source_at plan.rows k ≡ source_in pairs k
   pub count : sectors_of plan.rows ≡ length pairs

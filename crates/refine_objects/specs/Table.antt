@@ -19,10 +19,11 @@ abbrev pub passes_unmapped : PlainCheckpoint → (number : ℕ) → Bool
 passes_unmapped checkpoint number = nat_lt number checkpoint.number && not (maps checkpoint number)
 
 -- The table shows a plain volume: the newest acknowledged checkpoint is the same, and the removal that is out; it has just the
--- objects up to the frontier that were not removed, says of each whether that checkpoint passed it and does not map it, how often
--- it is pinned, whether the plan of a copy that is out takes sectors from it, and whether a hold keeps it; and of one with a live
--- sector how many sectors of payload it has. What is being removed is not pinned, and what was removed is before that checkpoint.
--- What holds keep is not past the frontier, and a plan takes sectors from objects up to it alone.
+-- volume's own objects up to the frontier that were not removed, says of each whether that checkpoint passed it and does not map
+-- it, how often it is pinned, whether the plan of a copy that is out takes sectors from it, and whether a hold keeps it; and of
+-- one with a live sector how many sectors of payload it has. What is being removed is not pinned, and what was removed is before
+-- that checkpoint. What holds keep is not past the frontier, and a plan takes sectors from objects up to it alone. Of the objects
+-- of ancestors it has none: nothing pins, copies or removes them.
 pub record ShowsTable (queue : QueueState) (plain : PlainState) : Type 0 where
   pub checkpoint : queue.maps.objects.checkpoint ≡ plain.checkpoint.number
   pub removal : queue.removal ≡ plain.removal

@@ -1,5 +1,5 @@
 -- The newest checkpoint that a stop leaves in the store: it says which object has each sector, and where.
-use Rattle.std.proofs.Common.{◌≡◌, ℕ, ◌+◌, ◌-◌, ◌≤◌, inl, inr, Option, Some, None, List, take, get_or}
+use Rattle.std.proofs.Common.{◌≡◌, ℕ, ◌+◌, ◌-◌, ◌≤◌, inl, inr, Option, Some, None, List, take}
 use Rattle.std.proofs.Common.{refl, sym, ◌∙◌, ap, subst, arith}
 use Rattle.std.specs.Prelude.{IfSome, option_map}
 use Rattle.lsvd_objstore.specs.Objects.{Objects, found}
@@ -14,7 +14,7 @@ use Rattle.object_stream.specs.declared.object.StreamObject.{StreamObject}
 use Rattle.object_stream.specs.declared.owner.Owner.{Owner}
 use Rattle.object_stream.specs.Landed.{Numbers}
 use Rattle.object_stream.specs.Replay.{object_name, expected_at}
-use Rattle.object_stream.specs.Stream.{owners, after_objects, end_after, end_at, last_number, entries_in_object}
+use Rattle.object_stream.specs.Stream.{Stream, owners, after_objects, end_after, end_at, last_number, entries_in_object}
 use Rattle.volume_maps.specs.declared.place.ObjectPlace.{ObjectPlace}
 use Rattle.volume_maps.specs.Laws.{place_owner}
 use Rattle.volume_maps.specs.Maps.{settled_at}
@@ -22,8 +22,8 @@ use Rattle.object_uploads.specs.Checkpoint.{mapped_place}
 use Rattle.object_uploads.specs.Stream.{IsPlacedIn, HoldsOwners, HoldsContent}
 use Rattle.stopped_volume.specs.Expected.{expected_alone}
 use Rattle.stopped_volume.specs.Opening.{stored_owner, owned_by, IsCheckpointOf}
-use Rattle.object_recovery.specs.Checkpoints.{expected_of}
-use Rattle.plain_disk.specs.State.{PlainState, stream_in}
+use Rattle.refine_mount.specs.Found.{expected_for}
+use Rattle.plain_disk.specs.State.{PlainState, OpensFirst, stream_in}
 use Rattle.plain_disk.specs.Checkpoints.{landed_checkpoint}
 use Rattle.plain_disk.specs.Valid.{IsPlainVolume}
 use Rattle.plain_disk.proofs.SealedLemmas.{owners_before}
@@ -45,16 +45,19 @@ pub record IsPlainCheckpointAt (volume : Expected) (plain : PlainState) (number 
   pub placed : (k : ℕ) (place : ObjectPlace) → option_map mapped_place (place_at stored_on rows k) ≡ Some place
       → IsPlacedIn (stream_in plain) k place
 
--- rows that say no owner have no place
-no_place : (place : Option StoredPlace) (mapped : ObjectPlace) → None ≡ option_map stored_owner place
-    → option_map mapped_place place ≡ Some mapped → ⊥
-no_place None mapped none at = cc
-no_place (Some place) mapped none at = cc
+-- A place that rows have where a volume opens is in an object of an ancestor, at the place where that has the sector.
+opens_placed : (stream : Stream) (k : ℕ) (place : Option StoredPlace) (mapped : ObjectPlace)
+    → IfSome (option_map stored_owner place) (λ owner. 1 ≤ owner.level)
+    → ((p : StoredPlace) → place ≡ Some p → p.place ≡ stream.inherited k)
+    → option_map mapped_place place ≡ Some mapped → IsPlacedIn stream k mapped
+opens_placed stream k None mapped level inherited at = absurd (cc)
+opens_placed stream k (Some place) mapped level inherited at =
+    let same : mapped_place place ≡ mapped = cc in
+    subst (IsPlacedIn stream k) same (λ own past. absurd (omega (arith, level, own)), λ from. inherited place refl)
 
 pub opening_is_checkpoint : (volume : Expected) (plain : PlainState) (number : ℕ) (bytes : List ℕ)
-    → ((k : ℕ) → (stream_in plain).opening k ≡ None)
-    → IsOpeningObject volume plain number bytes → IsPlainCheckpointAt volume plain number bytes
-opening_is_checkpoint volume plain number bytes blank is =
+    → OpensFirst plain → IsOpeningObject volume plain number bytes → IsPlainCheckpointAt volume plain number bytes
+opening_is_checkpoint volume plain number bytes opens is =
     let first : number - plain.number ≡ 0 = omega (arith, is.first) in
     record {
       rows = is.rows;
@@ -64,7 +67,9 @@ opening_is_checkpoint volume plain number bytes blank is =
       says = λ k.
           ap (λ n. after_objects plain.number plain.end plain.entries (stream_in plain).opening (take n plain.objects) k) first
           ∙ is.says k;
-      placed = λ k place at. absurd (no_place (place_at stored_on is.rows k) place (sym (blank k) ∙ is.says k) at);
+      placed = λ k place at.
+          opens_placed (stream_in plain) k (place_at stored_on is.rows k) place
+          (subst (λ o. IfSome o (λ (owner : Owner). 1 ≤ owner.level)) (is.says k) (opens.inherited k)) (is.places k) at;
     }
 
 pub later_is_checkpoint : (volume : Expected) (plain : PlainState) (number : ℕ) (bytes : List ℕ) → IsPlainVolume plain
@@ -104,17 +109,14 @@ later_is_checkpoint volume plain number bytes valid sealed is kind =
 module _ (uuid : List ℕ) (epoch : ℕ) (plain : PlainState) (landed : Numbers) (objects : Objects) (valid : IsPlainVolume plain)
     (has : HasVolumeUpTo uuid epoch plain landed objects) where
   abbrev volume : Expected
-  volume = expected_of uuid plain.geometry
+  volume = expected_for uuid plain
 
   abbrev base : ℕ
   base = (landed_checkpoint landed plain).number
 
-  pub opens_blank : (k : ℕ) → (stream_in plain).opening k ≡ None
-  opens_blank k = ap (λ (list : List (Option Owner)). get_or list k None) has.blank.owned
-
   pub base_sealed : base ≤ last_number (stream_in plain)
   base_sealed =
-      let from = base_from plain landed valid has.blank has.seals has.may in
+      let from = base_from plain landed valid has.opens has.seals has.may in
       omega (arith, from.3, recovers_sealed plain landed valid)
 
   -- the object that the store has under its number
@@ -124,7 +126,7 @@ module _ (uuid : List ℕ) (epoch : ℕ) (plain : PlainState) (landed : Numbers)
 
   base_there : BaseThere
   base_there =
-      let from = base_from plain landed valid has.blank has.seals has.may in
+      let from = base_from plain landed valid has.opens has.seals has.may in
       has.there base from.1 from.3 (base_has_landed plain landed valid has.may)
 
   -- one after the opening is sealed as a checkpoint
@@ -137,7 +139,7 @@ module _ (uuid : List ℕ) (epoch : ℕ) (plain : PlainState) (landed : Numbers)
 
   base_checkpoint : (there : BaseThere) → IsPlainCheckpointAt volume plain base there.0
   base_checkpoint there = elim there.2 [
-    | inl first ↦ opening_is_checkpoint volume plain base there.0 opens_blank first
+    | inl first ↦ opening_is_checkpoint volume plain base there.0 has.opens first
     | inr is ↦ later_is_checkpoint volume plain base there.0 valid base_sealed is (kind_of_later there.0 is)
   ]
 
@@ -152,7 +154,7 @@ module _ (uuid : List ℕ) (epoch : ℕ) (plain : PlainState) (landed : Numbers)
 
 pub known_is_placed : KnownIsPlaced
 known_is_placed uuid epoch plain landed objects uploads valid has knows k =
-    let volume : Expected = expected_of uuid plain.geometry in
+    let volume : Expected = expected_for uuid plain in
     let base = (landed_checkpoint landed plain).number in
     let stream = stream_in plain in
     let there : HasBase uuid epoch plain landed objects valid has = has_base uuid epoch plain landed objects valid has in
@@ -164,7 +166,7 @@ known_is_placed uuid epoch plain landed objects uploads valid has knows k =
       says = there.is.says;
     } in
     elim (settled_at uploads.queue.maps k) as (λ p. settled_at uploads.queue.maps k ≡ p
-    → IfSome p (λ (place : ObjectPlace). place.number ≤ base → IsPlacedIn stream k place)) [
+    → IfSome p (λ (place : ObjectPlace). (place.level ≡ 0 → place.number ≤ base) → IsPlacedIn stream k place)) [
       | None ↦ λ at. tt
       | Some place ↦ λ at low.
           there.is.placed k place (knows.places (end_at stream base) (owners stream base) checkpoint k place at low)

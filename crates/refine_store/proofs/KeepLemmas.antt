@@ -2,7 +2,7 @@
 use Rattle.std.proofs.Common.{◌≡◌, ℕ, ◌+◌, ◌-◌, ◌<◌, ◌≤◌, Bool, true, false, cond, not, ◌&&◌, List, [], ◌∷◌, ◌++◌, length, take}
 use Rattle.std.proofs.Common.{Option, Some, None, inl, inr, drop, get_or}
 use Rattle.std.proofs.Common.{refl, sym, ◌∙◌, ap, subst, arith, append-nil}
-use Rattle.std.specs.Prelude.{IfSome}
+use Rattle.std.specs.Prelude.{IfSome, ◌⊎◌}
 use Rattle.std.specs.List.{slice_get}
 use Rattle.std.proofs.lemmas.List.{take-take, take-append-le, take-append-drop, length-take-le}
 use Rattle.std.proofs.lemmas.Option.{slice_get_within}
@@ -24,7 +24,7 @@ use Rattle.volume_maps.specs.declared.place.ObjectPlace.{ObjectPlace}
 use Rattle.volume_maps.specs.Laws.{place_owner}
 use Rattle.object_uploads.specs.declared.rows.SealedRows.{SealedRows}
 use Rattle.object_uploads.specs.declared.rows.SealedRows.TheVariants as sealed_rows
-use Rattle.object_uploads.specs.Stream.{object_at, IsPlacedIn, HoldsContent}
+use Rattle.object_uploads.specs.Stream.{object_at, IsPlacedOwn, IsPlacedIn, HoldsContent}
 use Rattle.stopped_volume.specs.Expected.{expected_alone}
 use Rattle.plain_disk.specs.declared.event.PlainEvent.{PlainEvent}
 use Rattle.plain_disk.specs.declared.event.PlainEvent.TheVariants.{Write, Zero, Flush, Look, Release, Seal, TakeJob, JobDone}
@@ -36,7 +36,8 @@ use Rattle.plain_disk.specs.Collection.{planned_copy, with_plan, after_sealed_co
 use Rattle.plain_disk.specs.Objects.{has_unsealed, is_busy, end_of_next}
 use Rattle.plain_disk.specs.Reads.{look_calls, passes_look, objects_read, are_pinned, without_pins}
 use Rattle.plain_disk.specs.Removals.{to_remove, with_removal, is_out}
-use Rattle.plain_disk.specs.State.{PlainState, OpensBlank, stream_in}
+use Rattle.plain_disk.specs.Found.{IsOwnPast, IsInheritedAt}
+use Rattle.plain_disk.specs.State.{PlainState, OpensFirst, stream_in}
 use Rattle.plain_disk.specs.Step.{plain_after}
 use Rattle.plain_disk.specs.Stops.{recovered_number, recovered_end, kept_count, mounted_from, mounted_on}
 use Rattle.plain_disk.specs.Valid.{IsPlainVolume}
@@ -93,7 +94,7 @@ copied_too plain now number bytes sealed_rows.Checkpoint owned image copied = tt
 -- ---- a volume with the same object
 
 module _ (volume : Expected) (plain : PlainState) (number : ℕ) (bytes : List ℕ) (valid : IsPlainVolume plain)
-    (blank : OpensBlank plain) (is : IsLaterObject volume plain number bytes) where
+    (blank : OpensFirst plain) (is : IsLaterObject volume plain number bytes) where
   -- how many objects there are up to this one, and how many entries in them
   abbrev count : ℕ
   count = number - plain.number
@@ -110,6 +111,7 @@ module _ (volume : Expected) (plain : PlainState) (number : ℕ) (bytes : List �
   -- another volume that opens at the same object, and has the same objects and entries up to there, has it
   module _ (now : PlainState) (opens : now.number ≡ plain.number) (ends : now.end ≡ plain.end)
       (opening : now.opening ≡ plain.opening) (owned : now.owned ≡ plain.owned)
+      (inherited : now.inherited ≡ plain.inherited)
       (objects : take count now.objects ≡ take count plain.objects) (entries : take size now.entries ≡ take size plain.entries)
     where
       same_objects : (n : ℕ) → n ≤ count → take n now.objects ≡ take n plain.objects
@@ -184,12 +186,15 @@ module _ (volume : Expected) (plain : PlainState) (number : ℕ) (bytes : List �
           ∙ ap (after plain.opening)
           (sym (take-take from size now.entries low) ∙ ap (take from) entries ∙ take-take from size plain.entries low)
 
-      -- each place of a checkpoint is in an earlier object
-      same_place : (k : ℕ) (place : ObjectPlace) → place_owner (Some place) ≡ owners (stream_in plain) (number - 1) k
-          → IsPlacedIn (stream_in plain) k place → IsPlacedIn (stream_in now) k place
-      same_place k place owns placed level past =
-          let owner : Owner = record { level = place.level; number = place.number } in
-          let before = owners_are_past plain (number - 1) k owner blank (sym owns) in
+      -- a place in an object of the volume's own is in an earlier one
+      own_place : (k : ℕ) (place : ObjectPlace) (level : place.level ≡ 0) (past : now.number < place.number)
+          → IsPlacedOwn (stream_in plain) k place
+          → IsOwnPast (number - 1) (record { level = place.level; number = place.number })
+          ⊎ IsInheritedAt plain k (record { level = place.level; number = place.number })
+          → IfSome (object_at (stream_in now) place.number)
+          (λ object. place.sector ≡ place_in_object object.content (entries_in_object (stream_in now) place.number) k)
+      own_place k place level past placed (inr inherits) = absurd (omega (arith, level, inherits.0))
+      own_place k place level past placed (inl before) =
           let n = place.number in
           let At : Option StreamObject → List Entry → Type 0 =
           λ found list. IfSome found (λ object. place.sector ≡ place_in_object object.content list k) in
@@ -197,6 +202,15 @@ module _ (volume : Expected) (plain : PlainState) (number : ℕ) (bytes : List �
           (sym (same_object n (omega (arith, past, opens)) (omega (arith, before.2))))
           (subst (At (object_at (stream_in plain) n)) (sym (same_entries n (omega (arith, before.2))))
           (placed level (omega (arith, past, opens))))
+
+      -- each place of a checkpoint is in an earlier object, or an ancestor's
+      same_place : (k : ℕ) (place : ObjectPlace) → place_owner (Some place) ≡ owners (stream_in plain) (number - 1) k
+          → IsPlacedIn (stream_in plain) k place → IsPlacedIn (stream_in now) k place
+      same_place k place owns placed =
+          let owner : Owner = record { level = place.level; number = place.number } in (
+            λ level past. own_place k place level past placed.0 (owners_are_past plain (number - 1) k owner blank (sym owns)),
+            λ from. placed.1 from ∙ ap (λ (list : List ℕ). get_or list k 0) (sym inherited),
+          )
 
       pub later_kept : IsLaterObject volume now number bytes
       later_kept =
@@ -231,13 +245,14 @@ module _ (volume : Expected) (plain : PlainState) (number : ℕ) (bytes : List �
           }
 
 opening_kept : (volume : Expected) (plain now : PlainState) (number : ℕ) (bytes : List ℕ) → now.number ≡ plain.number
-    → now.end ≡ plain.end → now.owned ≡ plain.owned
+    → now.end ≡ plain.end → now.owned ≡ plain.owned → now.inherited ≡ plain.inherited
     → IsOpeningObject volume plain number bytes → IsOpeningObject volume now number bytes
-opening_kept volume plain now number bytes opens ends owned is = record {
+opening_kept volume plain now number bytes opens ends owned inherited is = record {
   first = is.first ∙ sym opens;
   rows = is.rows;
   is_checkpoint = subst (λ end. IsCheckpoint bytes (expected_alone volume number) end is.rows) (sym ends) is.is_checkpoint;
   says = λ k. ap (λ (list : List (Option Owner)). get_or list k None) owned ∙ is.says k;
+  places = λ k place at. is.places k place at ∙ ap (λ (list : List ℕ). get_or list k 0) (sym inherited);
 }
 
 -- ---- events
@@ -246,10 +261,10 @@ opening_kept volume plain now number bytes opens ends owned is = record {
 abbrev KeepsObjects : (old new : PlainState) → Type 0
 KeepsObjects old new =
     (new.number ≡ old.number) × (new.end ≡ old.end) × (new.opening ≡ old.opening) × (new.owned ≡ old.owned)
-    × ((more : List StreamObject) × (new.objects ≡ old.objects ++ more))
+    × (new.inherited ≡ old.inherited) × ((more : List StreamObject) × (new.objects ≡ old.objects ++ more))
 
 has_same : (plain : PlainState) → KeepsObjects plain plain
-has_same plain = (refl, refl, refl, refl, ([], sym (append-nil plain.objects)))
+has_same plain = (refl, refl, refl, refl, refl, ([], sym (append-nil plain.objects)))
 
 either_keeps : (plain : PlainState) (b : Bool) (x y : PlainState) → KeepsObjects plain x → KeepsObjects plain y
     → KeepsObjects plain (cond b x y)
@@ -278,7 +293,7 @@ copy_keeps plain true (Some plan) =
       content = Copy plan;
       end = end_at (stream_in plain) (last_number (stream_in plain));
     } in
-    (refl, refl, refl, refl, (object ∷ [], refl))
+    (refl, refl, refl, refl, refl, (object ∷ [], refl))
 
 keeps_objects : (plain : PlainState) (event : PlainEvent) → KeepsObjects plain (plain_after event plain)
 keeps_objects plain (Write lba body) = has_same plain
@@ -298,7 +313,7 @@ keeps_objects plain Seal =
     let object : StreamObject = record { content = Data; end = end_of_next plain } in
     either_keeps plain (has_unsealed plain && not (is_busy plain))
     (record plain { objects = plain.objects ++ object ∷ []; window = entered (plain.window.last + 1) false plain.window })
-    plain (refl, refl, refl, refl, (object ∷ [], refl)) (has_same plain)
+    plain (refl, refl, refl, refl, refl, (object ∷ [], refl)) (has_same plain)
 keeps_objects plain TakeJob = has_same plain
 keeps_objects plain (JobDone job) = has_same plain
 keeps_objects plain (JobFailed job) = has_same plain
@@ -309,7 +324,7 @@ keeps_objects plain SealCheckpoint =
     } in
     either_keeps plain (is_busy plain) plain
     (record plain { objects = plain.objects ++ object ∷ []; window = entered (plain.window.last + 1) true plain.window })
-    (has_same plain) (refl, refl, refl, refl, (object ∷ [], refl))
+    (has_same plain) (refl, refl, refl, refl, refl, (object ∷ [], refl))
 keeps_objects plain TakeRemove = removal_keeps plain plain.removal (to_remove plain)
 keeps_objects plain (RemoveDone number) =
     let gone : PlainState = record plain { removed = plain.removed ++ number ∷ []; removal = None } in
@@ -324,7 +339,7 @@ keeps_objects plain Status = has_same plain
 pub events_keep_object : EventsKeepObject
 events_keep_object volume plain number bytes event valid blank (inl is) =
     let keeps = keeps_objects plain event in
-    inl (opening_kept volume plain (plain_after event plain) number bytes keeps.0 keeps.1 keeps.3 is)
+    inl (opening_kept volume plain (plain_after event plain) number bytes keeps.0 keeps.1 keeps.3 keeps.4 is)
 events_keep_object volume plain number bytes event valid blank (inr is) =
     let now = plain_after event plain in
     let keeps = keeps_objects plain event in
@@ -332,8 +347,8 @@ events_keep_object volume plain number bytes event valid blank (inr is) =
     let first = number - plain.number in
     let held = end_at (stream_in plain) number - plain.end in
     inr (later_kept volume plain number bytes valid blank is now keeps.0 keeps.1 keeps.2 keeps.3
-    (ap (take first) keeps.4.1
-    ∙ take-append-le first plain.objects keeps.4.0 (count_within volume plain number bytes valid blank is))
+    keeps.4 (ap (take first) keeps.5.1
+    ∙ take-append-le first plain.objects keeps.5.0 (count_within volume plain number bytes valid blank is))
     (ap (take held) grows.1
     ∙ take-append-le held plain.entries grows.0 (size_within volume plain number bytes valid blank is)))
 
@@ -341,17 +356,20 @@ events_keep_object volume plain number bytes event valid blank (inr is) =
 
 -- a volume that keeps its objects up to a number, and the entries in them at least, keeps the objects up to there
 cut_keeps : (volume : Expected) (plain now : PlainState) (last number to : ℕ) (bytes : List ℕ) → IsPlainVolume plain
-    → OpensBlank plain → number ≤ last → end_at (stream_in plain) last ≤ to
+    → OpensFirst plain → number ≤ last → end_at (stream_in plain) last ≤ to
     → now.number ≡ plain.number → now.end ≡ plain.end → now.opening ≡ plain.opening → now.owned ≡ plain.owned
-    → now.objects ≡ take (last - plain.number) plain.objects → now.entries ≡ take (to - plain.end) plain.entries
+    → now.inherited ≡ plain.inherited → now.objects ≡ take (last - plain.number) plain.objects
+    → now.entries ≡ take (to - plain.end) plain.entries
     → IsObjectOf volume plain number bytes → IsObjectOf volume now number bytes
-cut_keeps volume plain now last number to bytes valid blank low high opens ends opening owned objects entries (inl is) =
-    inl (opening_kept volume plain now number bytes opens ends owned is)
-cut_keeps volume plain now last number to bytes valid blank low high opens ends opening owned objects entries (inr is) =
+cut_keeps volume plain now last number to bytes valid blank low high opens ends opening owned inherited objects entries
+    (inl is) =
+    inl (opening_kept volume plain now number bytes opens ends owned inherited is)
+cut_keeps volume plain now last number to bytes valid blank low high opens ends opening owned inherited objects entries
+    (inr is) =
     let first = number - plain.number in
     let held = end_at (stream_in plain) number - plain.end in
     let grown = ends_grow (stream_in plain) number last valid.stream.ends low in
-    inr (later_kept volume plain number bytes valid blank is now opens ends opening owned
+    inr (later_kept volume plain number bytes valid blank is now opens ends opening owned inherited
     (ap (take first) objects ∙ take-take first (last - plain.number) plain.objects (omega arith))
     (ap (take held) entries ∙ take-take held (to - plain.end) plain.entries (omega (arith, grown))))
 
@@ -359,7 +377,7 @@ pub mounts_keep_object : MountsKeepObject
 mounts_keep_object volume plain landed found log number bytes valid blank may low is =
     let last = recovered_number landed plain in (
       cut_keeps volume plain (mounted_from landed found plain) last number (kept_count landed found plain) bytes valid blank low
-          (omega arith) refl refl refl refl refl refl is,
+          (omega arith) refl refl refl refl refl refl refl is,
       cut_keeps volume plain (mounted_on log landed plain) last number (recovered_end landed plain) bytes valid blank low
-          (omega arith) refl refl refl refl refl refl is,
+          (omega arith) refl refl refl refl refl refl refl is,
     )

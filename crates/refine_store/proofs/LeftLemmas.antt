@@ -19,7 +19,7 @@ use Rattle.stopped_volume.specs.Objects.{landed_in}
 use Rattle.stopped_volume.specs.Store.{PutState, MayHoldPut}
 use Rattle.stopped_volume.specs.Store.PutState.{Acknowledged, GivenOut, Begun, NotBegun}
 use Rattle.stopped_volume.proofs.WholeLemmas.{is_whole}
-use Rattle.object_recovery.specs.Checkpoints.{expected_of}
+use Rattle.refine_mount.specs.Found.{expected_for}
 use Rattle.plain_disk.specs.State.{PlainState, stream_in}
 use Rattle.plain_disk.specs.Checkpoints.{landed_checkpoint}
 use Rattle.plain_disk.specs.Removals.{has}
@@ -117,9 +117,9 @@ none_of (Some bytes) none = absurd (cc)
 
 module _ (uuid : List ℕ) (epoch : ℕ) (plain : PlainState) (puts : ℕ → Option (PutState × List ℕ)) (objects : Objects)
     (valid : IsPlainVolume plain)
-    (are : ArePuts (expected_of uuid plain.geometry) plain puts) (left : MayBeLeft uuid epoch plain puts objects) where
+    (are : ArePuts (expected_for uuid plain) plain puts) (left : MayBeLeft uuid epoch plain puts objects) where
   abbrev volume : Expected
-  volume = expected_of uuid plain.geometry
+  volume = expected_for uuid plain
 
   abbrev landed : Numbers
   landed = landed_in objects volume
@@ -226,7 +226,7 @@ module _ (uuid : List ℕ) (epoch : ℕ) (plain : PlainState) (puts : ℕ → Op
       let landed_there : landed other ≡ true = ap is_some there in
       let object = landed_object other landed_there in
       let same : object.0 ≡ bytes = let e = object.1 in cc in
-      let from = base_from plain landed valid left.blank left.seals may_land in
+      let from = base_from plain landed valid left.opens left.seals may_land in
       let Result : List ℕ → Type 0 =
       λ b. (content : Content) × (end : ℕ) × HasSectors (expected_at volume other (end_at (stream_in plain) (other - 1))) content
       (entries_in_object (stream_in plain) other) end b in
@@ -235,23 +235,24 @@ module _ (uuid : List ℕ) (epoch : ℕ) (plain : PlainState) (puts : ℕ → Op
         | inr is ↦ (
           is.object.content,
           is.object.end,
-          sectors_past plain landed valid left.blank left.seals may_land volume other object.0 past landed_there is,
+          sectors_past plain landed valid left.opens left.seals may_land volume other object.0 past landed_there is,
         )
       ])
 
   has_volume : HasVolumeUpTo uuid epoch plain landed objects
   has_volume =
-      let from = base_from plain landed valid left.blank left.seals may_land in
+      let from = base_from plain landed valid left.opens left.seals may_land in
       record {
         described = left.described;
-        blank = left.blank;
+        opens = left.opens;
+        inherits = left.inherits;
         seals = left.seals;
         may = may_land;
         there = λ other some most there. landed_object other there;
         absent = λ other some most absent_is. none_of (found objects (object_name volume other)) absent_is;
         none_first = left.held.none_else 0 are.none_first;
         missing = none_of (found objects (object_name volume (number + 1)))
-            (first_missing plain landed valid left.blank left.seals may_land).absent;
+            (first_missing plain landed valid left.opens left.seals may_land).absent;
         holds = left.holds;
         past = λ other bytes after there.
             (let has = sectors_there other bytes (omega (arith, after, from.3)) there in

@@ -8,7 +8,7 @@ use Rattle.object_stream.specs.declared.object.StreamObject.{StreamObject}
 use Rattle.object_stream.specs.Landed.{Numbers, IsFirstMissing}
 use Rattle.object_stream.specs.Replay.{expected_at}
 use Rattle.object_stream.specs.Stream.{owners, end_at, entries_in_object, last_number}
-use Rattle.plain_disk.specs.State.{PlainState, OpensBlank, stream_in}
+use Rattle.plain_disk.specs.State.{PlainState, OpensFirst, stream_in}
 use Rattle.plain_disk.specs.Checkpoints.{landed_checkpoint}
 use Rattle.plain_disk.specs.Found.{SealsCheckpoints}
 use Rattle.plain_disk.specs.Stops.{recovered_number}
@@ -18,7 +18,7 @@ use Rattle.plain_disk.proofs.StopLemmas.{newest_of_all, recovers_base, recovers_
 use Rattle.refine_store.specs.Puts.{IsLaterObject}
 use Rattle.refine_store.proofs.DataLemmas.{HasSectors, sectors_of_content, checkpoint_object}
 
-module _ (plain : PlainState) (landed : Numbers) (valid : IsPlainVolume plain) (blank : OpensBlank plain)
+module _ (plain : PlainState) (landed : Numbers) (valid : IsPlainVolume plain) (blank : OpensFirst plain)
     (seals : SealsCheckpoints plain) (may : MayLand plain landed) where
   abbrev base : ℕ
   base = (landed_checkpoint landed plain).number

@@ -3,18 +3,19 @@ use Rattle.std.proofs.Common.{◌≡◌, ℕ, ◌<◌, ◌≤◌, inl, inr, Bool
 use Rattle.std.proofs.Common.{◌∙◌, ap, subst, arith}
 use Rattle.std.specs.Prelude.{unwrap_or}
 use Rattle.std.proofs.lemmas.Bool.{cases_lt}
+use Rattle.clone_chain.specs.declared.ancestor.Ancestor.{Ancestor}
 use Rattle.lsvd_base.specs.declared.geometry.Geometry.{Geometry}
 use Rattle.lsvd_names.specs.Names.{numbered_name}
 use Rattle.lsvd_objstore.specs.Objects.{Objects, found}
 use Rattle.object_format.specs.declared.expected.Expected.{Expected}
-use Rattle.object_recovery.specs.Checkpoints.{expected_of}
+use Rattle.refine_mount.specs.Found.{expected_for}
 use Rattle.object_stream.specs.Landed.{Numbers}
 use Rattle.object_stream.specs.Replay.{object_name}
 use Rattle.object_uploads.specs.State.{UploadsState}
 use Rattle.plain_disk.specs.Log.{mounted_log, empty_from}
 use Rattle.plain_disk.specs.Cache.{PlainCache, cache_with}
 use Rattle.plain_disk.specs.Checkpoints.{landed_checkpoint}
-use Rattle.plain_disk.specs.State.{PlainState, OpensBlank}
+use Rattle.plain_disk.specs.State.{PlainState, OpensFirst}
 use Rattle.plain_disk.specs.Found.{SealsCheckpoints}
 use Rattle.plain_disk.specs.Removals.{has, absent_of}
 use Rattle.plain_disk.specs.Stops.{recovered_number, recovered_end, kept_count, found_by}
@@ -71,14 +72,13 @@ abbrev sizes_with : (log : ℕ) → Geometry → Geometry
 sizes_with log geometry = record geometry { log = log }
 
 -- the volume has the same sizes but for the log, on whatever log
-has_with_log : (uuid : List ℕ) (geometry : Geometry) (epoch : ℕ) (objects : Objects) (log : ℕ)
-    → HasVolume uuid geometry epoch objects
-    → HasVolume uuid (sizes_with log geometry) epoch objects
-has_with_log uuid geometry epoch objects log has = record {
+has_with_log : (uuid : List ℕ) (geometry : Geometry) (chain : List Ancestor) (epoch : ℕ) (objects : Objects) (log : ℕ)
+    → HasVolume uuid geometry chain epoch objects → HasVolume uuid (sizes_with log geometry) chain epoch objects
+has_with_log uuid geometry chain epoch objects log has = record {
   volume = has.volume;
   says = has.says;
   sizes = ap (sizes_with log) has.sizes;
-  alone = has.alone;
+  chain_is = has.chain_is;
   epochs = has.epochs;
   whole = has.whole;
   holds = has.holds;
@@ -101,7 +101,7 @@ module _ (uuid : List ℕ) (epoch : ℕ) (plain : PlainState) (landed : Numbers)
     (has_it : HasVolumeUpTo uuid epoch plain landed objects) (none : HasNonePast uuid (recovered_number landed plain) objects)
   where
     abbrev volume : Expected
-    volume = expected_of uuid plain.geometry
+    volume = expected_for uuid plain
 
     abbrev number : ℕ
     number = recovered_number landed plain
@@ -134,7 +134,7 @@ module _ (uuid : List ℕ) (epoch : ℕ) (plain : PlainState) (landed : Numbers)
         ]
 
     -- the volume with these objects, its first N entries and any cache, where each object is one of it
-    module _ (log count : ℕ) (cache : PlainCache) (opens : OpensBlank (made_as landed log count cache plain))
+    module _ (log count : ℕ) (cache : PlainCache) (opens : OpensFirst (made_as landed log count cache plain))
         (seals : SealsCheckpoints (made_as landed log count cache plain))
         (keeps : (other : ℕ) (bytes : List ℕ) → other ≤ number → IsObjectOf volume plain other bytes
         → IsObjectOf volume (made_as landed log count cache plain) other bytes)
@@ -159,8 +159,9 @@ module _ (uuid : List ℕ) (epoch : ℕ) (plain : PlainState) (landed : Numbers)
 
         may_be_left : MayBeLeft uuid epoch made (puts_in uuid objects) objects
         may_be_left = record {
-          described = has_with_log uuid plain.geometry epoch objects log has_it.described;
-          blank = opens;
+          described = has_with_log uuid plain.geometry plain.chain epoch objects log has_it.described;
+          opens = opens;
+          inherits = has_it.inherits;
           seals = seals;
           held = record {
             puts_are = λ other state bytes is. may_hold (found objects (object_name volume other)) state bytes is;
@@ -182,16 +183,16 @@ module _ (uuid : List ℕ) (epoch : ℕ) (plain : PlainState) (landed : Numbers)
 
 pub mounted_stands : MountedStands
 mounted_stands uuid epoch plain landed found log uploads objects valid has_it none =
-    let volume : Expected = expected_of uuid plain.geometry in
+    let volume : Expected = expected_for uuid plain in
     let end = recovered_end landed plain in
-    let opens = mounts_keep_opening plain landed found log has_it.blank in
+    let opens = mounts_keep_opening plain landed found log has_it.opens in
     let seals = mounts_seal plain landed found log valid has_it.seals in (
       made_stands uuid epoch plain landed objects valid has_it none plain.geometry.log (kept_count landed found plain)
           (cache_with (mounted_log found end plain.cache.log)) opens.0 seals.0
-          (λ other bytes low is. (mounts_keep_object volume plain landed found log other bytes valid has_it.blank has_it.may low
+          (λ other bytes low is. (mounts_keep_object volume plain landed found log other bytes valid has_it.opens has_it.may low
           is).0) uploads,
       made_stands uuid epoch plain landed objects valid has_it none log end (cache_with (empty_from log end)) opens.1 seals.1
-          (λ other bytes low is. (mounts_keep_object volume plain landed found log other bytes valid has_it.blank has_it.may low
+          (λ other bytes low is. (mounts_keep_object volume plain landed found log other bytes valid has_it.opens has_it.may low
           is).1) uploads,
     )
 
@@ -203,6 +204,7 @@ object_with cache expected plain n bytes (inl is) = inl (record {
   rows = is.rows;
   is_checkpoint = is.is_checkpoint;
   says = is.says;
+  places = is.places;
 })
 object_with cache expected plain n bytes (inr is) = inr (record {
   past = is.past;
@@ -222,8 +224,8 @@ bytes_with cache NotBegun expected plain n bytes known = tt
 
 pub stands_with_any_cache : StandsWithAnyCache
 stands_with_any_cache uuid epoch plain cache uploads objects stands =
-    let volume : Expected = expected_of uuid plain.geometry in
-    let blank = stands.left.blank in
+    let volume : Expected = expected_for uuid plain in
+    let opens = stands.left.opens in
     let seals = stands.left.seals in
     record {
       puts = stands.puts;
@@ -237,13 +239,14 @@ stands_with_any_cache uuid epoch plain cache uploads objects stands =
       };
       left = record {
         described = stands.left.described;
-        blank = record {
-          number = blank.number;
-          end = blank.end;
-          opening = blank.opening;
-          owned = blank.owned;
-          payloads = blank.payloads;
+        opens = record {
+          number = opens.number;
+          end = opens.end;
+          payloads = opens.payloads;
+          inherited = opens.inherited;
+          zeros = opens.zeros;
         };
+        inherits = stands.left.inherits;
         seals = record { sealed = seals.sealed; marked = seals.marked; removed = seals.removed; out = seals.out };
         held = stands.left.held;
         holds = stands.left.holds;

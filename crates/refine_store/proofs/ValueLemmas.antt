@@ -1,14 +1,16 @@
--- What the image of a plain volume that opens blank has of each sector: what the object put that owns it, and zeros where none
+-- What the image of a plain volume has of each sector: what the object put that owns it, what it opens with where that is an
+-- ancestor's, and zeros where none
 -- does.
 use Rattle.std.proofs.Common.{◌≡◌, ℕ, zero, suc, ◌+◌, ◌-◌, ◌<◌, ◌≤◌, Bool, true, false, cond, Option, Some, None, List, [], ◌∷◌}
-use Rattle.std.proofs.Common.{length, take, drop, get_or, refl, sym, ◌∙◌, ap, subst, arith}
+use Rattle.std.proofs.Common.{length, take, drop, refl, sym, ◌∙◌, ap, subst, arith}
+use Rattle.std.specs.Prelude.{IfSome}
 use Rattle.std.specs.List.{slice_get, All}
 use Rattle.std.proofs.lemmas.Bool.Decides.{nat_tests}
 use Rattle.std.proofs.lemmas.List.Elements.{All-take, All-drop, All-weaker}
 use Rattle.std.proofs.lemmas.Option.{slice_get_within}
 use Rattle.std.proofs.Math.Seq.{take-add}
 use Rattle.lsvd_base.specs.declared.entry.Entry.{Entry}
-use Rattle.lsvd_base.specs.Image.{Image, zero_sector, blank, after}
+use Rattle.lsvd_base.specs.Image.{Image, zero_sector, after}
 use Rattle.lsvd_base.specs.Laws.{EndsBy}
 use Rattle.lsvd_base.specs.Range.{is_in_range}
 use Rattle.lsvd_base.proofs.SectorLemmas.{applies_in_parts}
@@ -26,7 +28,7 @@ use Rattle.object_stream.specs.Stream.{owners, end_after, end_at, last_number, G
 use Rattle.object_stream.proofs.ChangeLemmas.{changes_make_image}
 use Rattle.object_stream.proofs.StreamLemmas.{keeps_owners}
 use Rattle.object_stream.proofs.ValueLemmas.{length-after}
-use Rattle.plain_disk.specs.State.{PlainState, OpensBlank, stream_in}
+use Rattle.plain_disk.specs.State.{PlainState, OpensFirst, stream_in}
 use Rattle.plain_disk.specs.Valid.{IsPlainVolume}
 use Rattle.plain_disk.proofs.EndLemmas.{ends_grow, ends_from}
 use Rattle.plain_disk.proofs.Overlaid.{EndsBy-in_range}
@@ -41,12 +43,6 @@ one_from : (i : ℕ) (objects : List StreamObject) (object : StreamObject) → s
 one_from i [] object at = absurd (cc)
 one_from zero (first ∷ more) object at = let same : first ≡ object = cc in ap (λ (o : StreamObject). o ∷ []) same
 one_from (suc i) (first ∷ more) object at = one_from i more object at
-
--- the sectors of a blank image are zeros
-blank_sector : (sectors k : ℕ) (sector : List ℕ) → slice_get (blank sectors) k ≡ Some sector → sector ≡ zero_sector
-blank_sector zero k sector at = absurd (cc)
-blank_sector (suc sectors) zero sector at = let same : zero_sector ≡ sector = cc in sym same
-blank_sector (suc sectors) (suc k) sector at = blank_sector sectors k sector at
 
 abbrev sector_or : List ℕ → Option (List ℕ) → List ℕ
 sector_or other None = other
@@ -91,7 +87,7 @@ long_image plain valid number =
     subst (λ m. All (EndsBy m) first) (sym valid.sectors) (All-take (EndsBy g.sectors) count plain.entries all) in
     length-after plain.opening first inside ∙ valid.sectors
 
-module _ (plain : PlainState) (valid : IsPlainVolume plain) (blank_is : OpensBlank plain) where
+module _ (plain : PlainState) (valid : IsPlainVolume plain) (opens_is : OpensFirst plain) where
   abbrev stream : Stream
   stream = stream_in plain
 
@@ -112,11 +108,16 @@ module _ (plain : PlainState) (valid : IsPlainVolume plain) (blank_is : OpensBla
       × ((s : List ℕ) → slice_get image k ≡ Some s → slice_get (image_at (number - 1)) k ≡ Some s)
   PutIn Checkpoint number k image = ⊥
 
+  -- an ancestor's object has there what the volume opens with
+  pub record OwnsAt (owner : Owner) (k : ℕ) (image : Image) : Type 0 where
+    pub own : owner.level ≡ 0 → (object : StreamObject)
+        → slice_get plain.objects (owner.number - (plain.number + 1)) ≡ Some object
+        → PutIn object.content owner.number k image
+    pub inherited : 1 ≤ owner.level → (s : List ℕ) → slice_get image k ≡ Some s → slice_get plain.opening k ≡ Some s
+
   abbrev pub OwnsBy : Option Owner → (k : ℕ) → Image → Type 0
   OwnsBy None k image = (s : List ℕ) → slice_get image k ≡ Some s → s ≡ zero_sector
-  OwnsBy (Some owner) k image =
-      (object : StreamObject) → slice_get plain.objects (owner.number - (plain.number + 1)) ≡ Some object
-      → PutIn object.content owner.number k image
+  OwnsBy (Some owner) k image = OwnsAt owner k image
 
   -- another image that has no other sector there
   put_still : (content : Content) (number k : ℕ) (image other : Image)
@@ -130,8 +131,17 @@ module _ (plain : PlainState) (valid : IsPlainVolume plain) (blank_is : OpensBla
       → ((s : List ℕ) → slice_get other k ≡ Some s → slice_get image k ≡ Some s)
       → OwnsBy owner k image → OwnsBy owner k other
   owns_still None k image other same owns = λ s at. owns s (same s at)
-  owns_still (Some owner) k image other same owns =
-      λ object at. put_still object.content owner.number k image other same (owns object at)
+  owns_still (Some owner) k image other same owns = record {
+    own = λ level object at. put_still object.content owner.number k image other same (owns.own level object at);
+    inherited = λ level s at. owns.inherited level s (same s at);
+  }
+
+  -- an owner of the volume's own inherits nothing
+  own_by_put : (n k : ℕ) (image : Image)
+      → ((object : StreamObject) → slice_get plain.objects (n - (plain.number + 1)) ≡ Some object
+      → PutIn object.content n k image)
+      → OwnsBy (Some (record { level = 0; number = n })) k image
+  own_by_put n k image put = record { own = λ level. put; inherited = λ level. absurd (omega (arith, level)) }
 
   -- ---- one object more
 
@@ -226,7 +236,7 @@ module _ (plain : PlainState) (valid : IsPlainVolume plain) (blank_is : OpensBla
         owns_still owner k (image_at n) (after (image_at n) entries)
         (λ s at_k. ap (λ c. changed_by c (slice_get (image_at n) k)) (sym change) ∙ changed_to k s at_k) owns
     by_change k owner (Some (Put sector)) is change owns =
-        λ other at_it.
+        own_by_put (n + 1) k (after (image_at n) entries) λ other at_it.
         let same : object ≡ other = let e = ap (slice_get plain.objects) (sym index) ∙ at_it in cc in
         let kind : Data ≡ other.content = sym is ∙ ap (λ (o : StreamObject). o.content) same in
         subst (λ c. PutIn c (n + 1) k (after (image_at n) entries)) kind (
@@ -258,7 +268,7 @@ module _ (plain : PlainState) (valid : IsPlainVolume plain) (blank_is : OpensBla
         → OwnsBy owner k (image_at n)
         → OwnsBy (cond still (Some (record { level = 0; number = n + 1 })) owner) k (image_at n)
     by_test k source owner true pairs is from at_n still owns =
-        λ other at_it.
+        own_by_put (n + 1) k (image_at n) λ other at_it.
         let same : object ≡ other = let e = ap (slice_get plain.objects) (sym index) ∙ at_it in cc in
         let kind : Copy pairs ≡ other.content = sym is ∙ ap (λ (o : StreamObject). o.content) same in
         let own : is_own source (owners stream (n + 1 - 1) k) ≡ true =
@@ -291,19 +301,30 @@ module _ (plain : PlainState) (valid : IsPlainVolume plain) (blank_is : OpensBla
 
   -- ---- all objects
 
+  -- what the volume opens with is an ancestor's, or zeros
+  owns_opening : (k : ℕ) (image : Image) (owner : Option Owner) → stream.opening k ≡ owner
+      → IfSome owner (λ (o : Owner). 1 ≤ o.level)
+      → ((s : List ℕ) → slice_get image k ≡ Some s → slice_get plain.opening k ≡ Some s)
+      → OwnsBy owner k image
+  owns_opening k image None is level same = λ s at. opens_is.zeros k s is (same s at)
+  owns_opening k image (Some owner) is level same = record {
+    own = λ own. absurd (omega (arith, level, own));
+    inherited = λ from. same;
+  }
+
   owns_first : (k : ℕ) → OwnsBy (owners stream (plain.number + 0) k) k (image_at (plain.number + 0))
   owns_first k =
       let none : plain.number + 0 - plain.number ≡ 0 = omega arith in
-      let owner : owners stream (plain.number + 0) k ≡ None =
-      ap (λ m. after_objects plain.number plain.end plain.entries stream.opening (take m plain.objects) k) none
-      ∙ ap (λ (list : List (Option Owner)). get_or list k None) blank_is.owned in
+      let owner : owners stream (plain.number + 0) k ≡ stream.opening k =
+      ap (λ m. after_objects plain.number plain.end plain.entries stream.opening (take m plain.objects) k) none in
       let nothing : plain.end - plain.end ≡ 0 = omega arith in
       let ends : end_at stream (plain.number + 0) - plain.end ≡ 0 =
       ap (λ m. end_after plain.end (take m plain.objects) - plain.end) none ∙ nothing in
-      let image : image_at (plain.number + 0) ≡ blank plain.geometry.sectors =
-      ap (λ m. after plain.opening (take m plain.entries)) ends ∙ blank_is.opening in
+      let image : image_at (plain.number + 0) ≡ plain.opening =
+      ap (λ m. after plain.opening (take m plain.entries)) ends in
       subst (λ o. OwnsBy o k (image_at (plain.number + 0))) (sym owner)
-      (λ s at. blank_sector plain.geometry.sectors k s (ap (λ i. slice_get i k) (sym image) ∙ at))
+      (owns_opening k (image_at (plain.number + 0)) (stream.opening k) refl (opens_is.inherited k)
+      (λ s at. ap (λ i. slice_get i k) (sym image) ∙ at))
 
   owns_up_to : (c k : ℕ) → c ≤ length plain.objects
       → OwnsBy (owners stream (plain.number + c) k) k (image_at (plain.number + c))

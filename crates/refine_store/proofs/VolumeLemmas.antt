@@ -1,5 +1,6 @@
 -- What a mount finds of a plain volume is what the store has after a stop: it opens at the newest checkpoint that is there.
-use Rattle.std.proofs.Common.{◌≡◌, ℕ, ◌+◌, ◌-◌, ◌<◌, ◌≤◌, ◌==◌, ◌⊎◌, inl, inr, Bool, true, false, not, ◌&&◌, ◌||◌, nat_lt, nat_le}
+use Rattle.std.proofs.Common.{option_map, ◌≡◌, ℕ, ◌+◌, ◌-◌, ◌<◌, ◌≤◌, ◌==◌, ◌⊎◌, inl, inr, Bool, true, false, not}
+use Rattle.std.proofs.Common.{◌&&◌, ◌||◌, nat_lt, nat_le}
 use Rattle.std.proofs.Common.{Option, Some, None, is_some, List, ◌∷◌, length, take, get_or, refl, sym, ◌∙◌, ap, subst, arith}
 use Rattle.std.specs.Prelude.{IsTrue}
 use Rattle.std.specs.List.{All, slice_get}
@@ -31,15 +32,16 @@ use Rattle.object_stream.specs.Stream.{last_number, entries_in_object}
 use Rattle.object_stream.specs.Value.{sector_in, HasSector, StandsForSector, IsValue}
 use Rattle.object_stream.proofs.OneLemmas.{one_sector}
 use Rattle.object_uploads.specs.declared.rows.SealedRows.{SealedRows}
+use Rattle.object_uploads.specs.Checkpoint.{mapped_place}
 use Rattle.object_uploads.specs.Stream.{HoldsContent}
 use Rattle.stopped_volume.specs.Expected.{expected_alone}
 use Rattle.stopped_volume.specs.Objects.{landed_in, AreCheckpoints}
 use Rattle.stopped_volume.specs.Opening.{IsCheckpointOf, HasOpening}
 use Rattle.stopped_volume.specs.Laws.{HasStreamUpTo}
-use Rattle.object_recovery.specs.Checkpoints.{expected_of}
+use Rattle.refine_mount.specs.Found.{expected_for}
 use Rattle.plain_disk.specs.State.{PlainState, stream_in, history_length, payload_of}
 use Rattle.plain_disk.specs.Checkpoints.{landed_checkpoint}
-use Rattle.plain_disk.specs.Found.{found_in, Finds, HasFoundStream}
+use Rattle.plain_disk.specs.Found.{found_in, Finds, HasFoundStream, IsOwnPast}
 use Rattle.plain_disk.specs.Removals.{has, absent_of}
 use Rattle.plain_disk.specs.Stops.{recovered_number, found_by}
 use Rattle.plain_disk.specs.Valid.{IsPlainVolume}
@@ -56,7 +58,7 @@ use Rattle.refine_mount.proofs.CutPayloads.{payload_of_cut}
 use Rattle.refine_store.specs.Puts.{image_up_to, HasSourceSectors, IsLaterObject, IsObjectOf}
 use Rattle.refine_store.specs.Stored.{HasVolumeUpTo}
 use Rattle.refine_store.specs.Laws.{VolumeHasObjects}
-use Rattle.refine_store.proofs.BaseLemmas.{IsPlainCheckpointAt, opening_is_checkpoint, later_is_checkpoint, opens_blank, HasBase}
+use Rattle.refine_store.proofs.BaseLemmas.{IsPlainCheckpointAt, opening_is_checkpoint, later_is_checkpoint, HasBase}
 use Rattle.refine_store.proofs.BaseLemmas.{has_base}
 use Rattle.refine_store.proofs.DataLemmas.{AreContentRows, sectors_of_content, copy_sector, checkpoint_or, no_sectors}
 use Rattle.refine_store.proofs.NewestLemmas.{base_from, no_newer, none_past, landed_past}
@@ -125,7 +127,7 @@ object_there (Some object) is = (object, refl, kind_is object.content is)
 module _ (uuid : List ℕ) (epoch : ℕ) (plain : PlainState) (landed : Numbers) (objects : Objects) (valid : IsPlainVolume plain)
     (has_it : HasVolumeUpTo uuid epoch plain landed objects) where
   abbrev volume : Expected
-  volume = expected_of uuid plain.geometry
+  volume = expected_for uuid plain
 
   abbrev stream : Stream
   stream = stream_in plain
@@ -141,10 +143,10 @@ module _ (uuid : List ℕ) (epoch : ℕ) (plain : PlainState) (landed : Numbers)
   there = found_in landed plain
 
   from : (plain.number ≡ 1) × (0 < base) × (plain.checkpoint.number ≤ base) × (base ≤ number)
-  from = base_from plain landed valid has_it.blank has_it.seals has_it.may
+  from = base_from plain landed valid has_it.opens has_it.seals has_it.may
 
   finds : Finds landed plain
-  finds = record { valid = valid; may = has_it.may; opened = omega (arith, has_it.blank.number, valid.checkpoint.numbered) }
+  finds = record { valid = valid; may = has_it.may; opened = omega (arith, has_it.opens.number, valid.checkpoint.numbered) }
 
   has_stream : HasFoundStream landed plain
   has_stream = found_has_stream plain landed finds
@@ -223,8 +225,7 @@ module _ (uuid : List ℕ) (epoch : ℕ) (plain : PlainState) (landed : Numbers)
 
   plain_checkpoint : (n : ℕ) → IsCheckpointThere n → (object : ObjectThere n) → IsPlainCheckpointAt volume plain n object.0
   plain_checkpoint n one object = elim object.2 [
-    | inl first ↦
-        opening_is_checkpoint volume plain n object.0 (opens_blank uuid epoch plain landed objects valid has_it) first
+    | inl first ↦ opening_is_checkpoint volume plain n object.0 has_it.opens first
     | inr is ↦ later_is_checkpoint volume plain n object.0 valid (most_sealed n one.most) is (kind_there n object.0 one is)
   ]
 
@@ -310,7 +311,7 @@ module _ (uuid : List ℕ) (epoch : ℕ) (plain : PlainState) (landed : Numbers)
         | inl same ↦ omega (arith, same, opens.0, opens.1)
         | inr later ↦ elim (cases_lt n plain.checkpoint.number) [
           | inl before ↦ omega (arith, before, opens.2)
-          | inr after ↦ no_newer plain landed valid has_it.blank has_it.seals has_it.may n later.0
+          | inr after ↦ no_newer plain landed valid has_it.opens has_it.seals has_it.may n later.0
               (omega (arith, opens.0, later.1)) after one.there_is later.2 later.3
         ]
       ]
@@ -326,7 +327,7 @@ module _ (uuid : List ℕ) (epoch : ℕ) (plain : PlainState) (landed : Numbers)
     above = omega (arith, from.3);
     absent = ap is_some has_it.missing;
     least = λ other above below.
-        (let there_is = landed_past plain landed valid has_it.blank has_it.seals has_it.may other above (omega (arith, below)) in
+        (let there_is = landed_past plain landed valid has_it.opens has_it.seals has_it.may other above (omega (arith, below)) in
         ap is_some (has_it.there other (omega (arith, above)) (omega (arith, below)) there_is).1);
   }
 
@@ -368,6 +369,7 @@ module _ (uuid : List ℕ) (epoch : ℕ) (plain : PlainState) (landed : Numbers)
       };
       places = hold_places uuid epoch plain landed objects valid has_it;
     };
+    inherited = λ k place at level. (newest.is.placed k (mapped_place place) (ap (option_map mapped_place) at)).1 level;
     value = value;
   }
 
@@ -378,7 +380,7 @@ module _ (uuid : List ℕ) (epoch : ℕ) (plain : PlainState) (landed : Numbers)
     n = base + 1 + i
 
     there_is : IsTrue (landed n)
-    there_is = landed_past plain landed valid has_it.blank has_it.seals has_it.may n (omega arith) (omega (arith, low))
+    there_is = landed_past plain landed valid has_it.opens has_it.seals has_it.may n (omega arith) (omega (arith, low))
 
     object_is : ObjectThere n
     object_is = has_it.there n (omega arith) (omega (arith, low)) there_is
@@ -415,13 +417,22 @@ module _ (uuid : List ℕ) (epoch : ℕ) (plain : PlainState) (landed : Numbers)
     not_so : object.content ≡ Checkpoint → ⊥
     not_so kind =
         let is = is_later in
-        none_past plain landed valid has_it.blank has_it.seals has_it.may volume n is.bytes (omega arith) there_is is.later
+        none_past plain landed valid has_it.opens has_it.seals has_it.may volume n is.bytes (omega arith) there_is is.later
         (ap (λ (o : StreamObject). o.content) is.same ∙ kind)
 
     abbrev uuids : ℕ → Option (List ℕ)
     uuids = uuid_at uuid epoch plain landed objects valid has_it
 
     -- the image before the object has as many sectors as the volume
+    -- an owner of the volume's own is past its opening
+    own_is_past : (number k source : ℕ) → owners stream number k ≡ Some (record { level = 0; number = source })
+        → IsOwnPast number (record { level = 0; number = source })
+    own_is_past number k source owns =
+        elim (owners_are_past plain number k (record { level = 0; number = source }) has_it.opens owns) [
+          | inl past ↦ past
+          | inr inherited ↦ absurd (let none = inherited.0 in omega (arith, none))
+        ]
+
     image_long : length (image_up_to plain (n - 1)) ≡ plain.geometry.sectors
     image_long = long_image plain valid (n - 1)
 
@@ -437,11 +448,11 @@ module _ (uuid : List ℕ) (epoch : ℕ) (plain : PlainState) (landed : Numbers)
           let same : uuid ≡ has.expected.uuid = let e = has.level in cc in
           ap (λ u. found objects (numbered_name u source)) same ∙ has.present
 
-      by_put : OwnsBy plain valid has_it.blank (Some (record { level = 0; number = source })) k (image_up_to plain (n - 1))
+      by_put : OwnsBy plain valid has_it.opens (Some (record { level = 0; number = source })) k (image_up_to plain (n - 1))
       by_put =
           let opens_at = from in
-          subst (λ (o : Option Owner). OwnsBy plain valid has_it.blank o k (image_up_to plain (n - 1))) owner_is
-          (owns_at plain valid has_it.blank (n - 1) k (omega (arith, opens_at.0, opens_at.1))
+          subst (λ (o : Option Owner). OwnsBy plain valid has_it.opens o k (image_up_to plain (n - 1))) owner_is
+          (owns_at plain valid has_it.opens (n - 1) k (omega (arith, opens_at.0, opens_at.1))
           (most_sealed (n - 1) (omega (arith, low))))
 
       own_there : (bytes : List ℕ) → found objects (object_name volume source) ≡ Some bytes
@@ -450,7 +461,7 @@ module _ (uuid : List ℕ) (epoch : ℕ) (plain : PlainState) (landed : Numbers)
       own_there bytes there_at is =
           let shown = image_up_to plain (n - 1) in
           let own_of = own_sector uuid epoch plain landed objects valid has_it shown is.object.content source k is.object.end
-          bytes is.rows is.holds is.copied (by_put is.object is.there) in
+          bytes is.rows is.holds is.copied (by_put.own refl is.object is.there) in
           record {
             expected = expected_at volume source (end_at stream (source - 1));
             wide = omega (arith, sectors_limit plain.geometry valid.limits);
@@ -468,7 +479,7 @@ module _ (uuid : List ℕ) (epoch : ℕ) (plain : PlainState) (landed : Numbers)
       same_sector : s ≡ sector
       same_sector =
           let opens_at = from in
-          let past = owners_are_past plain (n - 1) k (record { level = 0; number = source }) has_it.blank owner_is in
+          let past = own_is_past (n - 1) k source owner_is in
           let landed_source : landed source ≡ true =
           sym (landed_there source (omega (arith, past.1)) (omega (arith, past.2, low))) ∙ ap is_some present_there in
           let object_at_source =
@@ -571,7 +582,7 @@ module _ (uuid : List ℕ) (epoch : ℕ) (plain : PlainState) (landed : Numbers)
         let Stored : ℕ → Owners → StreamObject → List Entry → Type 0 =
         λ end os o list. IsObjectStored objects uuids (expected_at volume n end) os o list in
         let one = stored_by later.object.content later.object.end is.bytes later.rows is.present_is
-        (none_past plain landed valid has_it.blank has_it.seals has_it.may volume n is.bytes (omega arith) there_is later)
+        (none_past plain landed valid has_it.opens has_it.seals has_it.may volume n is.bytes (omega arith) there_is later)
         later.holds later.copied in
         let last = end_after there.end (take i there.objects) in
         let os = after_objects there.number there.end there.entries (stream_in there).opening (take i there.objects) in
@@ -642,7 +653,6 @@ module _ (uuid : List ℕ) (epoch : ℕ) (plain : PlainState) (landed : Numbers)
 
   has_objects : HasObjects uuid there number objects
   has_objects = record {
-    uuid_at = uuid_at uuid epoch plain landed objects valid has_it;
     opened = refl;
     window = refl;
     pins = refl;

@@ -1,6 +1,6 @@
 -- Contract: what a put gives a store is the plain volume's object, what a stop leaves of the store is what a mount finds, and
 -- what a mount leaves stands for the volume that it makes.
-use Rattle.std.specs.Prelude.{ℕ, ◌<◌, ◌≤◌, true, IfSome, Option, List}
+use Rattle.std.specs.Prelude.{◌≡◌, ℕ, ◌<◌, ◌≤◌, true, IfSome, Option, List}
 use Rattle.lsvd_objstore.specs.Objects.{Objects}
 use Rattle.object_format.specs.declared.expected.Expected.{Expected}
 use Rattle.object_stream.specs.Landed.{Numbers}
@@ -18,16 +18,15 @@ use Rattle.stopped_volume.specs.Store.{PutState}
 use Rattle.plain_disk.specs.declared.event.PlainEvent.{PlainEvent}
 use Rattle.plain_disk.specs.declared.log.PlainCommit.{PlainCommit}
 use Rattle.plain_disk.specs.Cache.{PlainCache}
-use Rattle.plain_disk.specs.State.{PlainState, OpensBlank, stream_in}
+use Rattle.plain_disk.specs.State.{PlainState, OpensFirst, stream_in}
 use Rattle.plain_disk.specs.Checkpoints.{landed_checkpoint}
 use Rattle.plain_disk.specs.Step.{plain_after}
 use Rattle.plain_disk.specs.Stops.{recovered_number, mounted_from, mounted_on}
 use Rattle.plain_disk.specs.Found.{found_in}
 use Rattle.plain_disk.specs.Valid.{IsPlainVolume, MayLand}
 use Rattle.refine_objects.specs.Shows.{ShowsObjects}
-use Rattle.object_recovery.specs.Checkpoints.{expected_of}
 use Rattle.object_recovery.specs.Table.{KnowsObjects}
-use Rattle.refine_mount.specs.Found.{HasObjects}
+use Rattle.refine_mount.specs.Found.{expected_for, HasObjects}
 use Rattle.refine_store.specs.Puts.{IsObjectOf, ArePuts, MayBeLeft}
 use Rattle.refine_store.specs.Stored.{StoreStands, HasVolumeUpTo, HasNonePast}
 
@@ -42,18 +41,18 @@ JobIsObject =
     → TellAlike true objects.uploads.queue
     → IsJobOf objects.uploads number job → IsObjectOf (expected_of_volume objects) plain number job.bytes
 
--- an object of a volume that is followed from its creation on stays one while events go on
+-- an object of a volume that is followed from its beginning on stays one while events go on
 abbrev pub EventsKeepObject : Type 0
 EventsKeepObject =
     (volume : Expected) (plain : PlainState) (number : ℕ) (bytes : List ℕ) (event : PlainEvent)
-    → IsPlainVolume plain → OpensBlank plain
+    → IsPlainVolume plain → OpensFirst plain
     → IsObjectOf volume plain number bytes → IsObjectOf volume (plain_after event plain) number bytes
 
 -- and over a mount that recovers it
 abbrev pub MountsKeepObject : Type 0
 MountsKeepObject =
     (volume : Expected) (plain : PlainState) (landed : Numbers) (found : PlainCommit) (log number : ℕ) (bytes : List ℕ)
-    → IsPlainVolume plain → OpensBlank plain → MayLand plain landed
+    → IsPlainVolume plain → OpensFirst plain → MayLand plain landed
     → number ≤ recovered_number landed plain → IsObjectOf volume plain number bytes
     → IsObjectOf volume (mounted_from landed found plain) number bytes
     × IsObjectOf volume (mounted_on log landed plain) number bytes
@@ -66,8 +65,8 @@ abbrev pub LeftHasVolume : Type 0
 LeftHasVolume =
     (uuid : List ℕ) (epoch : ℕ) (plain : PlainState) (puts : ℕ → Option (PutState × List ℕ)) (objects : Objects)
     → IsPlainVolume plain
-    → ArePuts (expected_of uuid plain.geometry) plain puts → MayBeLeft uuid epoch plain puts objects
-    → HasVolumeUpTo uuid epoch plain (landed_in objects (expected_of uuid plain.geometry)) objects
+    → ArePuts (expected_for uuid plain) plain puts → MayBeLeft uuid epoch plain puts objects
+    → HasVolumeUpTo uuid epoch plain (landed_in objects (expected_for uuid plain)) objects
 
 -- So it has the objects of what a mount finds of it.
 abbrev pub VolumeHasObjects : Type 0
@@ -78,15 +77,15 @@ VolumeHasObjects =
 
 -- ---- mounts
 
--- A map of objects that has what the newest checkpoint of the store says, of the objects up to that, has each sector where the
--- plain volume's object has it.
+-- A map of objects that has what the newest checkpoint of the store says, of the objects up to that and of ancestors', has each
+-- sector where the plain volume's object has it.
 abbrev pub KnownIsPlaced : Type 0
 KnownIsPlaced =
     (uuid : List ℕ) (epoch : ℕ) (plain : PlainState) (landed : Numbers) (objects : Objects) (uploads : UploadsState)
     → IsPlainVolume plain → HasVolumeUpTo uuid epoch plain landed objects
-    → KnowsObjects (expected_of uuid plain.geometry) objects (landed_checkpoint landed plain).number uploads.queue
+    → KnowsObjects (expected_for uuid plain) objects (landed_checkpoint landed plain).number uploads.queue
     → (k : ℕ) → IfSome (settled_at uploads.queue.maps k) (λ (place : ObjectPlace).
-    place.number ≤ (landed_checkpoint landed plain).number → IsPlacedIn (stream_in plain) k place)
+    (place.level ≡ 0 → place.number ≤ (landed_checkpoint landed plain).number) → IsPlacedIn (stream_in plain) k place)
 
 -- Once the store has no object past the one before the first missing number, it stands for the volume that a mount makes of the
 -- plain one, with the cache or without it, on whatever log. All its objects are acknowledged.

@@ -5,8 +5,10 @@ use Rattle.std.specs.List.{slice_get, list_any}
 use Rattle.lsvd_base.specs.Image.{Image, after}
 use Rattle.lsvd_objstore.specs.Objects.{Objects}
 use Rattle.extent_map.specs.declared.extent.Extent.{Extent}
+use Rattle.extent_map.specs.Extents.{place_at}
 use Rattle.object_format.specs.declared.expected.Expected.{Expected}
 use Rattle.ckpt_format.specs.declared.place.StoredPlace.{StoredPlace}
+use Rattle.ckpt_format.specs.Places.{stored_on}
 use Rattle.ckpt_format.specs.Checkpoint.{IsCheckpoint}
 use Rattle.object_stream.specs.declared.object.StreamObject.{StreamObject}
 use Rattle.object_stream.specs.Stream.{owners, end_at, is_own, entries_in_object}
@@ -17,25 +19,28 @@ use Rattle.object_uploads.specs.declared.rows.SealedRows.{SealedRows}
 use Rattle.object_uploads.specs.declared.rows.SealedRows.TheVariants as sealed_rows
 use Rattle.object_uploads.specs.Queue.{copy_front_of}
 use Rattle.object_uploads.specs.Stream.{HoldsContent}
+use Rattle.stopped_volume.specs.Ancestors.{HasInherited}
 use Rattle.stopped_volume.specs.Expected.{expected_alone}
 use Rattle.stopped_volume.specs.Opening.{owned_by}
 use Rattle.stopped_volume.specs.Super.{HasVolume}
 use Rattle.stopped_volume.specs.Store.{PutState, MayHoldPuts}
 use Rattle.stopped_volume.specs.Store.PutState.{Acknowledged, GivenOut, Begun, NotBegun}
-use Rattle.plain_disk.specs.State.{PlainState, OpensBlank, stream_in}
+use Rattle.plain_disk.specs.State.{PlainState, OpensFirst, stream_in}
 use Rattle.plain_disk.specs.Removals.{has}
 use Rattle.plain_disk.specs.Found.{SealsCheckpoints}
-use Rattle.object_recovery.specs.Checkpoints.{expected_of}
-use Rattle.refine_mount.specs.Found.{HasHolds}
+use Rattle.refine_mount.specs.Found.{expected_for, HasHolds}
 
 -- ---- the bytes of an object
 
--- Bytes are those of the object at which a plain volume opens: a checkpoint of the owners there.
+-- Bytes are those of the object at which a plain volume opens: a checkpoint of the owners there, each at the place where the
+-- ancestor's object has the sector.
 pub record IsOpeningObject (volume : Expected) (plain : PlainState) (number : ℕ) (bytes : List ℕ) : Type 0 where
   pub first : number ≡ plain.number
   pub rows : List (Extent StoredPlace)
   pub is_checkpoint : IsCheckpoint bytes (expected_alone volume number) plain.end rows
   pub says : (k : ℕ) → (stream_in plain).opening k ≡ owned_by rows k
+  pub places : (k : ℕ) (place : StoredPlace) → place_at stored_on rows k ≡ Some place
+      → place.place ≡ (stream_in plain).inherited k
 
 -- the image after the entries of the objects up to a number
 abbrev pub image_up_to : PlainState → (number : ℕ) → Image
@@ -95,13 +100,19 @@ pub record ArePuts (volume : Expected) (plain : PlainState) (puts : ℕ → Opti
 
 -- ---- a stop
 
+-- a store has what a plain volume opens with of its ancestors
+abbrev pub Inherits : (uuid : List ℕ) → PlainState → Objects → Type 0
+Inherits uuid plain objects =
+    HasInherited uuid plain.chain (stream_in plain).opening (stream_in plain).inherited plain.opening objects
+
 -- What a stop may leave of the store of a plain volume that is followed from its first object on: its super object and its
--- epochs, of which this is the newest, of each of its objects what its put, and a removal, allow, and the holds that keep those
--- which the volume has as held.
+-- epochs, of which this is the newest, what it opens with of its ancestors, of each of its objects what its put, and a removal,
+-- allow, and the holds that keep those which the volume has as held.
 pub record MayBeLeft (uuid : List ℕ) (epoch : ℕ) (plain : PlainState) (puts : ℕ → Option (PutState × List ℕ))
     (objects : Objects) : Type 0 where
-  pub described : HasVolume uuid plain.geometry epoch objects
-  pub blank : OpensBlank plain
+  pub described : HasVolume uuid plain.geometry plain.chain epoch objects
+  pub opens : OpensFirst plain
+  pub inherits : Inherits uuid plain objects
   pub seals : SealsCheckpoints plain
-  pub held : MayHoldPuts (expected_of uuid plain.geometry) puts objects
-  pub holds : HasHolds (expected_of uuid plain.geometry) plain.held objects
+  pub held : MayHoldPuts (expected_for uuid plain) puts objects
+  pub holds : HasHolds (expected_for uuid plain) plain.held objects

@@ -7,7 +7,7 @@ use object_format::BadObject;
 use thiserror::Error;
 use uuid::Uuid;
 
-/// Why a volume is not created or not mounted. Each has a number, which is told with its values.
+/// Why a volume is not created, not cloned or not mounted. Each has a number, which is told with its values.
 #[derive(Clone, Copy, Debug, PartialEq, Eq, Error)]
 pub enum Refusal {
     /// 1: the store has no super object of the volume.
@@ -26,8 +26,8 @@ pub enum Refusal {
     BadObject { number: u64, reason: BadObject },
     /// 4, with the reason 9, which no bytes of an object have: the newest checkpoint maps a sector to the
     /// object of this number, which does not have it there. It is absent, is no data object or copy of the
-    /// grammar, or its payload has no such place. Or a hold names the checkpoint of this number, which is
-    /// absent.
+    /// grammar, or its payload has no such place; an ancestor's object is one that is there. Or a hold names
+    /// the checkpoint of this number, which is absent.
     #[error("object {number} is absent, or does not have what the newest checkpoint maps to it")]
     MissingObject { number: u64 },
     /// 5: the device is the cache of this volume in another epoch than the newest that the store has: a mount
@@ -41,9 +41,14 @@ pub enum Refusal {
     /// log is too short or too long for the volume.
     #[error("a log of {log} sectors with no open slot, or of no fitting length")]
     NoSlot { log: u64 },
-    /// 9: the volume is a clone, with this many ancestors. Clones are not mounted yet.
-    #[error("the volume has {count} ancestors, and clones are not mounted yet")]
-    HasAncestors { count: u32 },
+    /// 8: of the ancestor with this uuid, the store lacks the super object, the checkpoint that was cloned,
+    /// or an object that the newest checkpoint maps a sector to. Of several ancestors it is the nearest; but
+    /// objects are told of only after all that is bad.
+    #[error("the store lacks something of the ancestor {ancestor}")]
+    BaseMissing { ancestor: Uuid },
+    /// 9: the volume has as many levels as a volume may have, its own included: no clone can be made of it.
+    #[error("the volume has {levels} levels, so no clone of it can be made")]
+    TooDeep { levels: u32 },
     /// 10: the record with this seq, or the pad before it, is none: the first test that its header fails.
     /// Where the log begins past the end of the objects, the seq is that end, and the reason is that of
     /// another seq.
@@ -87,7 +92,8 @@ impl Refusal {
             Refusal::StaleCache { .. } => 5,
             Refusal::WrongVolume { .. } => 6,
             Refusal::NoSlot { .. } => 7,
-            Refusal::HasAncestors { .. } => 9,
+            Refusal::BaseMissing { .. } => 8,
+            Refusal::TooDeep { .. } => 9,
             Refusal::BadRecord { .. } => 10,
             Refusal::Exists => 11,
             Refusal::Worn { .. } => 12,
@@ -108,7 +114,8 @@ impl Refusal {
             Refusal::StaleCache { cache, store } => Values::Two(cache, store),
             Refusal::WrongVolume { found } => Values::Volume(found),
             Refusal::NoSlot { log } => Values::One(log),
-            Refusal::HasAncestors { count } => Values::One(u64::from(count)),
+            Refusal::BaseMissing { ancestor } => Values::Volume(ancestor),
+            Refusal::TooDeep { levels } => Values::One(u64::from(levels)),
             Refusal::BadRecord { seq, reason } => Values::Two(seq, u64::from(reason.code())),
             Refusal::Worn { value } => Values::One(value),
         }

@@ -126,15 +126,15 @@ empty_is_new objects empty = λ name own there. absurd (there (ap (λ (os : Obje
 
 -- the first object stands in a store that stands for a new volume, and no other one does
 as_checkpoint : (geometry : Geometry) (bytes : List ℕ) (new : Objects) → found new (numbered_name script_uuid 1) ≡ Some bytes
-    → IsObjectOf (expected_of script_uuid geometry) (created_volume geometry) 1 bytes
-    → IsCheckpointOf (expected_of script_uuid geometry) new 1 0 (λ k. None)
+    → IsObjectOf (expected_of script_uuid geometry 0) (created_volume geometry) 1 bytes
+    → IsCheckpointOf (expected_of script_uuid geometry 0) new 1 0 (λ k. None)
 as_checkpoint geometry bytes new present (inl is) =
     record { bytes = bytes; present = present; rows = is.rows; is_checkpoint = is.is_checkpoint; says = is.says }
 as_checkpoint geometry bytes new present (inr later) = absurd (omega (arith, later.past))
 
 new_first : (geometry : Geometry) (uploads : UploadsState) (new : Objects)
     → StoreStands script_uuid 0 (created_volume geometry) uploads new
-    → IsCheckpointOf (expected_of script_uuid geometry) new 1 0 (λ k. None)
+    → IsCheckpointOf (expected_of script_uuid geometry 0) new 1 0 (λ k. None)
 new_first geometry uploads new stands =
     let known = stands.are.known 1 (omega arith) (omega arith) refl in
     as_checkpoint geometry known.0 new (stands.left.held.puts_are 1 Acknowledged known.0 known.1) known.2
@@ -190,24 +190,26 @@ has_one P (now ∷ past) has = tt
 -- what it has is not refused
 no_refusal_left : (geometry : Geometry) (objects : Objects) (disk : DiskState) (error : MountError)
     → (may : MayMountLeft geometry objects disk)
-    → OfVolume script_uuid (log_of disk.size) (Some objects) (λ g epoch. RefusesNoneLeft (owner_at epoch) g (Some objects)
-    disk error)
+    → OfVolume script_uuid (log_of disk.size) (Some objects) (λ g chain epoch.
+    RefusesNoneLeft (owner_at epoch) g chain (Some objects) disk error)
     → refuses error ≡ true → ⊥
 no_refusal_left geometry objects disk error may none refused =
-    (let e = none geometry may.epoch may.log may.described may.plain may.found may.number may.left in cc)
+    (let e = none geometry may.plain.chain may.epoch may.log may.described may.plain may.found may.number may.left in cc)
 
 -- what ends a mount is want of memory alone
 pub only_memory_left : (geometry : Geometry) (objects : Objects) (disk left : DiskState) (error : MountError)
     → FailsNone (mount_cost 0) disk
     → MayMountLeft geometry objects disk
     → OfVolume script_uuid (log_of disk.size) (Some objects)
-    (λ g epoch. IsWhyFor script_uuid (Some objects) (λ h e. IsWhyNotLeft (owner_at e) h (Some objects) disk) g epoch error)
-    → OfVolume script_uuid (log_of disk.size) (Some objects) (λ g epoch. RefusesNoneLeft (owner_at epoch) g (Some objects)
-    disk error)
+    (λ g chain epoch.
+    IsWhyFor script_uuid (Some objects) (λ h c e. IsWhyNotLeft (owner_at e) h c (Some objects) disk) g chain epoch error)
+    → OfVolume script_uuid (log_of disk.size) (Some objects) (λ g chain epoch.
+    RefusesNoneLeft (owner_at epoch) g chain (Some objects) disk error)
     → CostsMount (log_of disk.size) (not (is_device_fault error)) disk left → Counts (is_store_fault_of error) 0 0
     → error ≡ OutOfMemory
 only_memory_left geometry objects disk left (Refused (Worn value)) fails may why none costs counts =
-    absurd (elim (why geometry may.epoch may.log may.described) [ inl unfit ↦ unfit.1 | inr worn ↦ may.low value worn ])
+    absurd
+    (elim (why geometry may.plain.chain may.epoch may.log may.described) [ inl unfit ↦ unfit.1 | inr worn ↦ may.low value worn ])
 only_memory_left geometry objects disk left (Refused refusal) fails may why none costs counts =
     absurd (no_refusal_left geometry objects disk (Refused refusal) may none refl)
 only_memory_left geometry objects disk left StoreFault fails may why none costs counts = absurd (no_fault counts)
@@ -245,24 +247,26 @@ removes_numbers number old new removed = record {
     | inr gone ↦ gone
   ];
   holds = λ n. removed.removes.others (hold_name script_uuid n) (λ past. (let e = past.1.0 in cc));
+  others = λ name apart. removed.removes.others name (λ past. apart past.0);
 }
 
 pub mounted_again : (geometry : Geometry) (disk : DiskState) (mounted : MountedState) (old new : Objects)
     → FailsNone (mount_cost 0) disk
     → MayMountLeft geometry old disk
-    → OfVolume script_uuid (log_of disk.size) (Some old) (λ g epoch. IsOfVolume (owner_at epoch) g mounted)
+    → OfVolume script_uuid (log_of disk.size) (Some old) (λ g chain epoch. IsOfVolume (owner_at epoch) g chain mounted)
     → Becomes (RemovesAllPast script_uuid mounted.number) (Some old) (Some new)
-    → OfVolume script_uuid (log_of disk.size) (Some old) (λ g epoch. KeepsLeft (owner_at epoch) g (Some old) disk
-    (disk_of mounted))
+    → OfVolume script_uuid (log_of disk.size) (Some old) (λ g chain epoch.
+    KeepsLeft (owner_at epoch) g chain (Some old) disk (disk_of mounted))
     → CostsMount (log_of disk.size) true disk (disk_of mounted) → HoldsNow IsSynced (disk_of mounted).moments
-    → OfVolume script_uuid (log_of disk.size) (Some old) (λ g epoch. IsMountedVolume g epoch old mounted new)
-mounted_again geometry disk mounted old new fails may volume becomes stops costs synced = λ g epoch log described.
-    let since = stops geometry may.epoch may.log may.described may.plain may.found may.number may.left may.synced in
+    → OfVolume script_uuid (log_of disk.size) (Some old) (λ g chain epoch. IsMountedVolume g chain epoch old mounted new)
+mounted_again geometry disk mounted old new fails may volume becomes stops costs synced = λ g chain epoch log described.
+    let since =
+    stops geometry may.plain.chain may.epoch may.log may.described may.plain may.found may.number may.left may.synced in
     let one = still_one since.since disk.moments (has_one _ disk.moments may.left.device) in
     let removed = becomes_told (RemovesAllPast script_uuid mounted.number) old new becomes in
     record {
-      volume = volume g epoch log described;
-      described = removal_keeps_volume script_uuid mounted.number old new removed.removes g epoch described;
+      volume = volume g chain epoch log described;
+      described = removal_keeps_volume script_uuid mounted.number old new removed.removes g chain epoch described.0;
       removed = removes_numbers mounted.number old new removed;
       fuse = (mounts_all (log_of disk.size) true disk (disk_of mounted) fails costs).1;
       now = synced_one (disk_of mounted).moments synced (subst (HasNow (λ now. Unit {0})) (sym since.moments) one);
@@ -293,23 +297,25 @@ begun_numbers number epoch old new begun =
       holds = λ n.
           put.others (hold_name script_uuid n) (λ same. (let e = ap (λ (name : ObjName). name.kind) same in cc))
           ∙ before.holds n;
+      others = λ name apart.
+          put.others name (λ same. apart (ap (λ (named : ObjName). named.uuid) same)) ∙ before.others name apart;
     }
 
 pub mounted_anew : (disk : DiskState) (mounted : MountedState) (old new : Objects) → FailsNone format_cost disk
     → IsBlankDisk disk.size disk → OfVolume script_uuid (log_of disk.size) (Some old)
-    (λ g epoch. IsOfVolume (owner_at (epoch + 1)) g mounted)
-    → OfVolume script_uuid (log_of disk.size) (Some old) (λ g epoch.
+    (λ g chain epoch. IsOfVolume (owner_at (epoch + 1)) g chain mounted)
+    → OfVolume script_uuid (log_of disk.size) (Some old) (λ g chain epoch.
     Becomes (BeginsEpoch script_uuid mounted.number (epoch + 1)) (Some old) (Some new))
     → (epoch : ℕ) × mounts.CostsNewLog script_uuid epoch true disk (disk_of mounted) → HoldsNow IsSynced (disk_of mounted).moments
-    → OfVolume script_uuid (log_of disk.size) (Some old) (λ g epoch. IsMountedVolume g (epoch + 1) old mounted new)
-mounted_anew disk mounted old new fails blank volume becomes costs synced = λ g epoch log described.
-    let begun = becomes_told (BeginsEpoch script_uuid mounted.number (epoch + 1)) old new (becomes g epoch log described) in
+    → OfVolume script_uuid (log_of disk.size) (Some old) (λ g chain epoch. IsMountedVolume g chain (epoch + 1) old mounted new)
+mounted_anew disk mounted old new fails blank volume becomes costs synced = λ g chain epoch log described.
+    let begun = becomes_told (BeginsEpoch script_uuid mounted.number (epoch + 1)) old new (becomes g chain epoch log described) in
     let (middle, removed, put) = begun in
     record {
-      volume = volume g epoch log described;
+      volume = volume g chain epoch log described;
       described =
-          next_epoch_is_begun script_uuid g epoch middle new
-          (removal_keeps_volume script_uuid mounted.number old middle removed.removes g epoch described) put;
+          next_epoch_is_begun script_uuid g chain epoch middle new
+          (removal_keeps_volume script_uuid mounted.number old middle removed.removes g chain epoch described.0) put;
       removed = begun_numbers mounted.number (epoch + 1) old new begun;
       fuse = (makes_all format_cost true disk (disk_of mounted) fails costs.1.calls.calls).1;
       now = synced_one (disk_of mounted).moments synced (formatted_one costs.0 costs.1.end disk (disk_of mounted) fails blank
@@ -318,21 +324,24 @@ mounted_anew disk mounted old new fails blank volume becomes costs synced = λ g
 
 no_refusal_stored : (geometry : Geometry) (sectors : ℕ) (objects : Objects) (error : MountError) → geometry.log ≡ sectors
     → MayMountStored geometry objects
-    → OfVolume script_uuid sectors (Some objects) (λ g epoch. RefusesNoneStored script_uuid g (Some objects) error)
+    → OfVolume script_uuid sectors (Some objects) (λ g chain epoch. RefusesNoneStored script_uuid g chain (Some objects) error)
     → refuses error ≡ true → ⊥
 no_refusal_stored geometry sectors objects error log may none refused =
-    (let e = none geometry may.epoch log may.described may.plain may.number may.stored in cc)
+    (let e = none geometry may.plain.chain may.epoch log may.described may.plain may.number may.stored in cc)
 
 -- what ends it is want of memory alone
 pub only_memory_anew : (geometry : Geometry) (objects : Objects) (disk left : DiskState) (error : MountError)
     → FailsNone format_cost disk
     → geometry.log ≡ log_of disk.size → MayMountStored geometry objects
     → OfVolume script_uuid (log_of disk.size) (Some objects)
-    (λ g epoch. IsWhyFor script_uuid (Some objects) (λ h e. IsWhyLost script_uuid h e (Some objects)) g epoch error)
-    → OfVolume script_uuid (log_of disk.size) (Some objects) (λ g epoch. RefusesNoneStored script_uuid g (Some objects) error)
+    (λ g chain epoch.
+    IsWhyFor script_uuid (Some objects) (λ h c e. IsWhyLost script_uuid h c e (Some objects)) g chain epoch error)
+    → OfVolume script_uuid (log_of disk.size) (Some objects) (λ g chain epoch. RefusesNoneStored script_uuid g chain
+    (Some objects) error)
     → FailsToFormatIn script_uuid (is_device_fault error) disk left → Counts (is_store_fault_of error) 0 0 → error ≡ OutOfMemory
 only_memory_anew geometry objects disk left (Refused (Worn value)) fails log_is may why none format counts =
-    absurd (elim (why geometry may.epoch log_is may.described) [ inl unfit ↦ unfit.1 | inr worn ↦ may.low value worn ])
+    absurd
+    (elim (why geometry may.plain.chain may.epoch log_is may.described) [ inl unfit ↦ unfit.1 | inr worn ↦ may.low value worn ])
 only_memory_anew geometry objects disk left (Refused refusal) fails log_is may why none format counts =
     absurd (no_refusal_stored geometry (log_of disk.size) objects (Refused refusal) log_is may none refl)
 only_memory_anew geometry objects disk left StoreFault fails log_is may why none format counts = absurd (no_fault counts)

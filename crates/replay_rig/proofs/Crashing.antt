@@ -1,6 +1,6 @@
 -- What a stop leaves of the store of a rig, where some of the objects under way have landed.
 use Rattle.std.proofs.Common.{◌≡◌, ℕ, zero, suc, ◌+◌, ◌-◌, ◌<◌, ◌≤◌, ◌==◌, nat_eq, nat_le, Bool, true, false, cond, not, ◌&&◌}
-use Rattle.std.proofs.Common.{◌||◌, List, [], ◌∷◌}
+use Rattle.std.proofs.Common.{◌||◌, List, [], ◌∷◌, length}
 use Rattle.std.proofs.Common.{map, max, refl, sym, ◌∙◌, ap, subst, inl, inr, arith}
 use Rattle.std.specs.Prelude.{Option, Some, None, is_some, option_map, unwrap_or}
 use Rattle.std.specs.List.{AllByRecursion, list_any}
@@ -29,7 +29,7 @@ use Rattle.transcript.specs.Letters.{under_way, has_landed, landed_by}
 use Rattle.replay_rig.specs.Puts.{PutView}
 use Rattle.replay_rig.specs.Rig.{RigState, script_uuid, expected_of_plain, AreUnderWay, IsFirstUnderWay, HasBytesOfObject}
 use Rattle.replay_rig.specs.Rig.{IsKeptObject, ShowsPlain, LandsAs, Lands}
-use Rattle.replay_rig.proofs.Describing.{lands_keep_volume, lands_leave_none}
+use Rattle.replay_rig.proofs.Describing.{lands_keep_volume, lands_inherit, lands_leave_none}
 use Rattle.replay_rig.proofs.Stepped.{all_puts}
 use Rattle.replay_rig.proofs.WindowLemmas.{under_way_numbers}
 use Rattle.replay_rig.proofs.Putting.{open_within, open_is_kept}
@@ -516,12 +516,13 @@ module _ (rig : RigState) (plain : PlainState) (letters : List ℕ) (new : Objec
 
   pub may_be_left : MayBeLeft script_uuid h.epoch plain (puts_now plain rig.puts new) new
   may_be_left = record {
-    described = lands_keep_volume rig.puts letters rig.objects new plain.geometry h.epoch lands h.described;
-    blank = h.opens;
+    described = lands_keep_volume rig.puts letters rig.objects new plain.geometry plain.chain h.epoch lands h.described;
+    opens = h.opens;
+    inherits = lands_inherit rig.puts letters rig.objects new plain lands h.inherits;
     seals = h.seals;
     holds =
         subst (λ held. HasHolds (expected_of_plain plain) held new) (sym h.unheld)
-        (lands_leave_none rig.puts letters rig.objects new plain.geometry lands h.holds);
+        (lands_leave_none rig.puts letters rig.objects new plain.geometry (length plain.chain) lands h.holds);
     held = record {
       puts_are = λ n state bytes is. puts_held n state bytes (is_known plain n) refl is;
       none_else = λ n is. none_held n (is_known plain n) refl is;

@@ -76,7 +76,7 @@ object_with_cache : (volume : Expected) (plain : PlainState) (cache : PlainCache
     → IsObjectOf volume plain number bytes
     → IsObjectOf volume (record plain { cache = cache }) number bytes
 object_with_cache volume plain cache number bytes (inl is) =
-    inl (record { first = is.first; rows = is.rows; is_checkpoint = is.is_checkpoint; says = is.says })
+    inl (record { first = is.first; rows = is.rows; is_checkpoint = is.is_checkpoint; says = is.says; places = is.places })
 object_with_cache volume plain cache number bytes (inr is) =
     inr (record {
       past = is.past;
@@ -121,6 +121,7 @@ stopping_rig calls old volume plain h none rest shows budget =
       own = subst (HasOwnCommits (owner_at h.epoch)) (sym is)
           (record { last = h.own.last; unfinished = h.own.unfinished; in_range = h.own.in_range });
       described = h.described;
+      inherits = h.inherits;
       begun = omega (arith, h.begun);
       uuid_is = subst (λ (v : VolumeState). v.objects.uploads.uuid ≡ script_uuid) (sym is) h.uuid_is;
       opens = stops_keep_opening plain calls h.opens;

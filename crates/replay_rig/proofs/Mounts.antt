@@ -25,11 +25,10 @@ use Rattle.cache_log.specs.Committed.{IsOnDisk}
 use Rattle.stopped_volume.specs.Store.{PutState}
 use Rattle.stopped_volume.specs.Store.PutState.{Acknowledged}
 use Rattle.object_uploads.specs.State.{UploadsState}
-use Rattle.stopped_volume.specs.Super.{HasVolume}
 use Rattle.upload_window.specs.Window.{has_number}
 use Rattle.plain_disk.specs.declared.log.PlainCommit.{PlainCommit}
 use Rattle.plain_disk.specs.Cache.{is_kept, kept_commit}
-use Rattle.plain_disk.specs.State.{PlainState, OpensBlank, stream_in, history_length, frontier_of, frontier_end, folded_to}
+use Rattle.plain_disk.specs.State.{PlainState, OpensFirst, stream_in, history_length, frontier_of, frontier_end, folded_to}
 use Rattle.plain_disk.specs.Checkpoints.{landed_checkpoint}
 use Rattle.plain_disk.specs.Removals.{has}
 use Rattle.plain_disk.specs.Found.{SealsCheckpoints, found_in}
@@ -56,7 +55,7 @@ use Rattle.refine_log.specs.Fuses.{fuse_in}
 use Rattle.vol_core.specs.Shows.{Shows}
 use Rattle.vol_core.specs.Step.{passing}
 use Rattle.vol_mount.specs.Mounted.{MountedState, disk_of, NumbersNextCommit}
-use Rattle.vol_recover.specs.Describing.{OfVolume}
+use Rattle.vol_recover.specs.Describing.{HasWithAncestors, OfVolume}
 use Rattle.vol_recover.specs.Standing.{MayMountWith, MayMountWithout}
 use Rattle.vol_recover.proofs.MadeLemmas.{with_cache_shows, without_shows}
 use Rattle.vol_recover.proofs.StandLemmas.{KeepsUpTo, keeps_up_to}
@@ -76,7 +75,7 @@ use Rattle.replay_rig.specs.Rig.{HasStored, ShowsPlain, Lands}
 use Rattle.replay_rig.proofs.CrashLemmas.{left_is_synced}
 use Rattle.replay_rig.proofs.Crashing.{done_state, none_past, recovered_same, kept_same, lost_same}
 use Rattle.replay_rig.proofs.Opening.{fuse_told}
-use Rattle.replay_rig.proofs.Describing.{lands_keep_volume}
+use Rattle.replay_rig.proofs.Describing.{lands_keep_volume, lands_inherit}
 use Rattle.replay_rig.proofs.Standing.{rig_stops, ends_past, landed_left, number_left, up_to, finds, counts, has_left}
 use Rattle.replay_rig.proofs.Standing.{left_from}
 
@@ -84,7 +83,7 @@ use Rattle.replay_rig.proofs.Standing.{left_from}
 
 pub stored_left : (rig : RigState) (plain : PlainState) (letters : List ℕ) (new : Objects) → ShowsPlain rig plain
     → Lands rig.puts letters rig.objects new → rig.lines < 2 ^ 40
-    → IsStored script_uuid plain.geometry (found_in (landed_left new plain) plain) (number_left new plain) (Some new)
+    → IsStored script_uuid plain.geometry plain.chain (found_in (landed_left new plain) plain) (number_left new plain) (Some new)
 stored_left rig plain letters new h lands few =
     found_is_stored script_uuid plain.geometry.log h.epoch plain (landed_left new plain) new h.shows.valid
     (up_to rig plain letters new h lands) h.shows.valid.limits
@@ -108,7 +107,8 @@ record AreLowLeft (greatest end : ℕ) : Type 0 where
   of_end : end < 2 ^ 60
 
 low_left : (rig : RigState) (plain : PlainState) (letters : List ℕ) (new : Objects) (greatest end : ℕ) → ShowsPlain rig plain
-    → Lands rig.puts letters rig.objects new → rig.lines < 2 ^ 40 → IsExtent script_uuid plain.geometry new greatest end
+    → Lands rig.puts letters rig.objects new → rig.lines < 2 ^ 40
+    → IsExtent script_uuid plain.geometry plain.chain new greatest end
     → AreLowLeft greatest end
 low_left rig plain letters new greatest end h lands few extent =
     let has = has_left rig plain letters new h lands in
@@ -119,7 +119,7 @@ low_left rig plain letters new greatest end h lands few extent =
           (none_past rig plain letters new h lands greatest late) extent.present)
       | inr low ↦ omega (arith, low, most, few)
     ] in
-    let ends = extent.end_is low has.uuid_at (stream_in there) there.opening (number_left new plain) has.stored in
+    let ends = extent.end_is low (stream_in there) there.opening (number_left new plain) has.stored in
     let same = (counts rig plain letters new h lands).end in
     let within = recovers_within plain (landed_left new plain) h.shows.valid in
     let entries = h.young.entries in
@@ -129,9 +129,11 @@ low_epoch : (rig : RigState) (plain : PlainState) → (h : ShowsPlain rig plain)
 low_epoch rig plain h few = (let begun = h.begun in omega (arith, begun, few))
 
 described_left : (rig : RigState) (plain : PlainState) (letters : List ℕ) (new : Objects) → (h : ShowsPlain rig plain)
-    → Lands rig.puts letters rig.objects new → HasVolume script_uuid plain.geometry h.epoch new
-described_left rig plain letters new h lands =
-    lands_keep_volume rig.puts letters rig.objects new plain.geometry h.epoch lands h.described
+    → Lands rig.puts letters rig.objects new → HasWithAncestors script_uuid plain.geometry plain.chain h.epoch new
+described_left rig plain letters new h lands = (
+  lands_keep_volume rig.puts letters rig.objects new plain.geometry plain.chain h.epoch lands h.described,
+  (lands_inherit rig.puts letters rig.objects new plain lands h.inherits).ancestors,
+)
 
 pub may_mount_stored : (rig : RigState) (plain : PlainState) (letters : List ℕ) (new : Objects) → ShowsPlain rig plain
     → Lands rig.puts letters rig.objects new → rig.lines < 2 ^ 40 → MayMountStored plain.geometry new
@@ -196,7 +198,8 @@ module _ (rig : RigState) (plain : PlainState) (fates : List Fate) (letters : Li
       (finds rig plain letters new h lands).opened (omega arith) has_commit.0)
 
   pub is_left : rig.lines < 2 ^ 40
-      → IsLeft (owner_at h.epoch) plain.geometry (found_in (landed_left new plain) plain) commit_left (number_left new plain)
+      → IsLeft (owner_at h.epoch) plain.geometry plain.chain (found_in (landed_left new plain) plain) commit_left
+      (number_left new plain)
       (Some new) left
   is_left few = record {
     stored = stored_left rig plain letters new h lands few;
@@ -243,7 +246,7 @@ module _ (rig : RigState) (plain : PlainState) (fates : List Fate) (letters : Li
       (omega (arith, least, commits, few), omega (arith, same, head, entries, few))
 
   none_worn : rig.lines < 2 ^ 40 → (value : ℕ)
-      → IsWhyNotLeft (owner_at h.epoch) plain.geometry (Some new) left (Refused (Worn value)) → ⊥
+      → IsWhyNotLeft (owner_at h.epoch) plain.geometry plain.chain (Some new) left (Refused (Worn value)) → ⊥
   none_worn few value (inl stored) = absurd stored
   none_worn few value (inr (good, (greatest, end, extent, reads))) =
       let has = has_commit.0 in
@@ -300,13 +303,12 @@ none_of (Some body) is = cc
 
 -- The plain volume that a mount made of another one is at rest: no object of it is on its way, and none of its removals.
 pub record IsRestingOf (plain made : PlainState) : Type 0 where
-  pub geometry : made.geometry ≡ plain.geometry
   pub entries : history_length made ≤ history_length plain
   pub last : made.window.last ≤ plain.window.last
   pub objects : made.window.objects ≡ []
   pub gone : made.given_out ≡ made.removed
   pub none_out : made.removal ≡ None
-  pub opens : OpensBlank made
+  pub opens : OpensFirst made
   pub seals : SealsCheckpoints made
   pub held : made.held ≡ plain.held
   pub told : made.cache.left ≡ None
@@ -358,7 +360,7 @@ module _ (epoch : ℕ) (made : PlainState) (uploads : UploadsState) (objects : O
 
 module _ (rig : RigState) (plain : PlainState) (letters : List ℕ) (new after : Objects) (mounted : MountedState)
     (h : ShowsPlain rig plain) (lands : Lands rig.puts letters rig.objects new) (few : rig.lines < 2 ^ 40)
-    (epoch : ℕ) (was : IsMountedVolume plain.geometry epoch new mounted after)
+    (epoch : ℕ) (was : IsMountedVolume plain.geometry plain.chain epoch new mounted after)
     (number_is : mounted.number ≡ number_left new plain) where
   removed : RemovesNumbers (number_left new plain) new after
   removed = subst (λ n. RemovesNumbers n new after) number_is was.removed
@@ -377,6 +379,7 @@ module _ (rig : RigState) (plain : PlainState) (letters : List ℕ) (new after :
       | inr low ↦ inl (removed.stay n (omega (arith, low)))
     ];
     holds = removed.holds;
+    others = removed.others;
   }
 
   still_up_to : HasVolumeUpTo script_uuid epoch plain (landed_left new plain) after
@@ -413,7 +416,8 @@ module _ (rig : RigState) (plain : PlainState) (letters : List ℕ) (new after :
             finished rests.pending;
         epoch = epoch;
         own = was.volume.own;
-        described = subst (λ g. HasVolume script_uuid g epoch after) (sym rests.geometry) was.described;
+        described = stands.left.described;
+        inherits = stands.left.inherits;
         begun = begun;
         uuid_is = was.volume.uuid_is;
         opens = rests.opens;
@@ -440,15 +444,17 @@ module _ (rig : RigState) (plain : PlainState) (letters : List ℕ) (new after :
 -- what a mount on a device whose log has so many sectors made of the volume that a store has
 abbrev pub MountedAs : (log : ℕ) → (begun : ℕ → ℕ) → Objects → MountedState → Objects → Type 0
 MountedAs log begun new mounted after =
-    OfVolume script_uuid log (Some new) (λ geometry epoch. IsMountedVolume geometry (begun epoch) new mounted after)
+    OfVolume script_uuid log (Some new) (λ geometry chain epoch.
+    IsMountedVolume geometry chain (begun epoch) new mounted after)
 
 abbrev pub MountsLeftOf : (log : ℕ) → Objects → DiskState → MountedState → Type 0
 MountsLeftOf log new left mounted =
-    OfVolume script_uuid log (Some new) (λ geometry epoch. MountsLeft (owner_at epoch) geometry (Some new) left mounted)
+    OfVolume script_uuid log (Some new) (λ geometry chain epoch.
+    MountsLeft (owner_at epoch) geometry chain (Some new) left mounted)
 
 abbrev pub MountsStoredOf : (log : ℕ) → Objects → MountedState → Type 0
 MountsStoredOf log new mounted =
-    OfVolume script_uuid log (Some new) (λ geometry epoch. MountsStored script_uuid geometry (Some new) mounted)
+    OfVolume script_uuid log (Some new) (λ geometry chain epoch. MountsStored script_uuid geometry chain (Some new) mounted)
 
 -- the answer tells of a mount, and the rig shows what it made
 abbrev pub IsMountedRig : (rig : RigState) (letters : List ℕ) → PlainState → (made : PlainState) → MountedState → Objects → Type 0
@@ -495,7 +501,6 @@ module _ (rig : RigState) (plain : PlainState) (letters : List ℕ) (new : Objec
 
   rests_kept : (found : PlainCommit) → IsRestingOf plain (mounted_from landed found plain)
   rests_kept found = record {
-    geometry = refl;
     entries = omega (arith, length-take (kept_count landed found plain - plain.end) plain.entries);
     last = (counts rig plain letters new h lands).sealed;
     objects = refl;
@@ -516,13 +521,12 @@ module _ (rig : RigState) (plain : PlainState) (letters : List ℕ) (new : Objec
   rests_lost =
       let found : PlainCommit = plain.cache.log.last in
       record {
-        geometry = refl;
         entries = omega (arith, length-take (recovered_end landed plain - plain.end) plain.entries);
         last = (counts rig plain letters new h lands).sealed;
         objects = refl;
         gone = refl;
         none_out = refl;
-        opens = subst OpensBlank (sym loses) (mounts_keep_opening plain landed found plain.geometry.log h.opens).1;
+        opens = subst OpensFirst (sym loses) (mounts_keep_opening plain landed found plain.geometry.log h.opens).1;
         seals = subst SealsCheckpoints (sym loses) (mounts_seal plain landed found plain.geometry.log h.shows.valid h.seals).1;
         held = refl;
         told = refl;
@@ -545,8 +549,8 @@ kept_rig rig plain fates letters new after left mounted h on_disk lands is_left_
     let made : PlainState = mounted_from there commit plain in
     let described = described_left rig plain letters new h lands in
     let may = may_with rig plain fates letters new left h on_disk lands is_left_by count few in
-    let volume = was plain.geometry h.epoch log described in
-    let is = mounts plain.geometry h.epoch log described (found_in there plain) commit number may.left in
+    let volume = was plain.geometry plain.chain h.epoch log described in
+    let is = mounts plain.geometry plain.chain h.epoch log described (found_in there plain) commit number may.left in
     let shows =
     with_cache_shows (owner_at h.epoch) plain commit there new left mounted may volume.volume is in
     let stands = (mounts_stand rig plain letters new after mounted h lands few h.epoch volume is.number_is commit).0 in
@@ -580,8 +584,8 @@ lost_rig rig plain letters new after mounted sectors h lands few log was mounts 
     let has = up_to rig plain letters new h lands in
     let may : MayMountWithout script_uuid size h.epoch plain there new =
     record { valid = h.shows.valid; stored = stored; volume = has } in
-    let volume = was plain.geometry h.epoch log described in
-    let is = mounts plain.geometry h.epoch log described (found_in there plain) number stored in
+    let volume = was plain.geometry plain.chain h.epoch log described in
+    let is = mounts plain.geometry plain.chain h.epoch log described (found_in there plain) number stored in
     let same = loses rig plain letters new h lands in
     let fuse = fuse_in mounted.volume.volume.log.commits.disk.budget in
     let shows =
@@ -701,7 +705,7 @@ pub no_plan_again : (rig : RigState) (plain : PlainState) (fates : List Fate) (l
     → ShowsPlain rig plain → WasStopped rig fates letters new left
     → MountedAs (log_of left.size) (λ epoch. epoch) new mounted after → mounted.volume.volume.plan ≡ None
 no_plan_again rig plain fates letters new after left mounted h was volume =
-    (volume plain.geometry h.epoch (has_log rig plain fates left h was.on_disk was.left_by).0
+    (volume plain.geometry plain.chain h.epoch (has_log rig plain fates left h was.on_disk was.left_by).0
     (described_left rig plain letters new h was.lands)).volume.no_plan
 
 pub no_plan_anew : (rig : RigState) (plain : PlainState) (letters : List ℕ) (new after : Objects) (mounted : MountedState)
@@ -709,7 +713,7 @@ pub no_plan_anew : (rig : RigState) (plain : PlainState) (letters : List ℕ) (n
     → ShowsPlain rig plain → WasLost rig letters new → plain.geometry.log ≡ sectors
     → MountedAs sectors (λ epoch. epoch + 1) new mounted after → mounted.volume.volume.plan ≡ None
 no_plan_anew rig plain letters new after mounted sectors h was log volume =
-    (volume plain.geometry h.epoch log (described_left rig plain letters new h was.lands)).volume.no_plan
+    (volume plain.geometry plain.chain h.epoch log (described_left rig plain letters new h was.lands)).volume.no_plan
 
 pub told_by : (rig : RigState) (letters : List ℕ) (plain made : PlainState) (mounted : MountedState) (after : Objects)
     (answer : Answer)

@@ -1,9 +1,11 @@
 -- The rig of a volume that was just created.
-use Rattle.std.proofs.Common.{◌≡◌, ℕ, false, List, [], refl, subst, inl, arith}
+use Rattle.std.proofs.Common.{◌≡◌, ℕ, false, List, [], refl, sym, subst, inl, arith}
 use Rattle.std.specs.Prelude.{Option, Some, None}
 use Rattle.lsvd_base.specs.declared.geometry.Geometry.{Geometry}
 use Rattle.lsvd_device.specs.Calls.{Fuse, Budget, fuse_of}
 use Rattle.lsvd_objstore.specs.Objects.{Objects, found}
+use Rattle.extent_map.specs.Extents.{place_at}
+use Rattle.ckpt_format.specs.Places.{stored_on}
 use Rattle.object_recovery.specs.Checkpoints.{expected_of}
 use Rattle.object_stream.specs.Replay.{object_name}
 use Rattle.stopped_volume.specs.Opening.{IsCheckpointOf}
@@ -15,6 +17,7 @@ use Rattle.refine_store.specs.Puts.{IsObjectOf}
 use Rattle.vol_core.specs.Volume.{SteppedVolume}
 use Rattle.vol_core.specs.Shows.{Shows}
 use Rattle.vol_core.specs.Step.{passing}
+use Rattle.vol_recover.proofs.BlankLemmas.{no_place, inherits_nothing}
 use Rattle.replay_rig.specs.Crash.{IsNewVolume}
 use Rattle.replay_rig.specs.Rig.{rig_of, script_uuid, expected_of_plain, ShowsPlain}
 use Rattle.replay_rig.proofs.Copies.{none_out}
@@ -25,10 +28,16 @@ fuse_told (Some budget) fuse is = cc
 
 -- the first object of a new volume is the one at which it opens
 opening_object : (geometry : Geometry) (objects : Objects)
-    → (first : IsCheckpointOf (expected_of script_uuid geometry) objects 1 0 (λ k. None))
-    → IsObjectOf (expected_of script_uuid geometry) (created_volume geometry) 1 first.bytes
+    → (first : IsCheckpointOf (expected_of script_uuid geometry 0) objects 1 0 (λ k. None))
+    → IsObjectOf (expected_of script_uuid geometry 0) (created_volume geometry) 1 first.bytes
 opening_object geometry objects first =
-    inl (record { first = refl; rows = first.rows; is_checkpoint = first.is_checkpoint; says = first.says })
+    inl (record {
+      first = refl;
+      rows = first.rows;
+      is_checkpoint = first.is_checkpoint;
+      says = first.says;
+      places = λ k place at. absurd (no_place (place_at stored_on first.rows k) place (sym (first.says k)) at);
+    })
 
 -- no plan of a copy is out
 pub new_has_no_plan : (geometry : Geometry) (volume : SteppedVolume) (objects : Objects) → IsNewVolume geometry volume objects
@@ -48,6 +57,7 @@ new_rig geometry volume objects new =
       epoch = 0;
       own = new.created.own;
       described = new.described;
+      inherits = inherits_nothing script_uuid geometry.sectors objects;
       begun = omega arith;
       uuid_is = new.created.uuid_is;
       opens = created_opens geometry;

@@ -1,11 +1,14 @@
 -- What events leave of a plain volume: where it opens, whether its device is told to stop, and how its numbers grow.
 use Rattle.std.proofs.Common.{◌≡◌, ℕ, ◌+◌, ◌≤◌, Bool, true, false, cond, not, ◌&&◌, List, [], ◌∷◌, ◌++◌, length, refl, sym, ◌∙◌}
-use Rattle.std.proofs.Common.{ap, arith, length-append}
+use Rattle.std.proofs.Common.{ap, subst, arith, length-append}
 use Rattle.std.specs.Prelude.{Option, Some, None, is_some}
+use Rattle.clone_chain.specs.declared.ancestor.Ancestor.{Ancestor}
+use Rattle.lsvd_base.specs.declared.geometry.Geometry.{Geometry}
 use Rattle.lsvd_base.specs.declared.entry.Entry.{Entry}
 use Rattle.lsvd_base.specs.declared.entry.Entry.TheVariants as entries
 use Rattle.lsvd_base.specs.Limits.{may_transfer}
 use Rattle.lsvd_device.specs.Calls.{Fuse, fuse_after}
+use Rattle.lsvd_objstore.specs.Objects.{Objects}
 use Rattle.object_stream.specs.declared.object.Content.TheVariants.{Data, Checkpoint}
 use Rattle.object_stream.specs.declared.object.CopiedSector.{CopiedSector}
 use Rattle.object_stream.specs.declared.object.StreamObject.{StreamObject}
@@ -29,7 +32,10 @@ use Rattle.plain_disk.specs.State.{PlainState, PlainCheckpoint, stream_in, front
 use Rattle.plain_disk.specs.Step.{plain_after}
 use Rattle.plain_disk.proofs.CommitLemmas.{either}
 use Rattle.refine_log.proofs.PlainCommits.{plain_commit_takes_calls}
-use Rattle.replay_rig.specs.Rig.{RemovesAtOnce}
+use Rattle.object_recovery.specs.Checkpoints.{expected_of}
+use Rattle.refine_store.specs.Puts.{Inherits}
+use Rattle.stopped_volume.specs.Super.{HasVolume}
+use Rattle.replay_rig.specs.Rig.{script_uuid, expected_of_plain, RemovesAtOnce}
 
 -- ---- fuses
 
@@ -66,10 +72,12 @@ entering_told plain entry =
 
 -- ---- sizes
 
--- a volume opens where another one does, has an entry and an object more at most, its device was told to stop as that one's was,
--- and holds keep the same objects
+-- a volume opens where another one does and with the same of its ancestors, has an entry and an object more at most, its device
+-- was told to stop as that one's was, and holds keep the same objects
 pub record GrowsByOne (old new : PlainState) : Type 0 where
   pub geometry : new.geometry ≡ old.geometry
+  pub chain : new.chain ≡ old.chain
+  pub inherits : (objects : Objects) → Inherits script_uuid old objects → Inherits script_uuid new objects
   pub end : new.end ≡ old.end
   pub entries : length new.entries ≤ length old.entries + 1
   pub last : new.window.last ≤ old.window.last + 1
@@ -79,6 +87,8 @@ pub record GrowsByOne (old new : PlainState) : Type 0 where
 same_grows : (plain : PlainState) → GrowsByOne plain plain
 same_grows plain = record {
   geometry = refl;
+  chain = refl;
+  inherits = λ objects is. is;
   end = refl;
   entries = omega arith;
   last = omega arith;
@@ -98,6 +108,8 @@ either_length false entry list = omega arith
 entering_grows : (plain : PlainState) (entry : Entry) → GrowsByOne plain (after_entering entry plain)
 entering_grows plain entry = record {
   geometry = refl;
+  chain = refl;
+  inherits = λ objects is. is;
   end = refl;
   entries = either_length (comes_to_log plain entry && passes_entry (cache_for plain entry) entry) entry plain.entries;
   last = omega arith;
@@ -110,6 +122,8 @@ cache_grows : (plain : PlainState) (cache : PlainCache) (pins : List ℕ) → Is
     → GrowsByOne plain (record plain { cache = cache; pins = pins })
 cache_grows plain cache pins told = record {
   geometry = refl;
+  chain = refl;
+  inherits = λ objects is. is;
   end = refl;
   entries = omega arith;
   last = omega arith;
@@ -123,6 +137,8 @@ window_grows : (plain : PlainState) (objects : List StreamObject) (window : Wind
     → GrowsByOne plain (record plain { objects = objects; window = window; checkpoint = checkpoint })
 window_grows plain objects window checkpoint last = record {
   geometry = refl;
+  chain = refl;
+  inherits = λ objects is. is;
   end = refl;
   entries = omega arith;
   last = last;
@@ -151,6 +167,8 @@ removal_grows : (plain : PlainState) (removed given_out : List ℕ) (removal : O
     → GrowsByOne plain (record plain { removed = removed; given_out = given_out; removal = removal })
 removal_grows plain removed given_out removal = record {
   geometry = refl;
+  chain = refl;
+  inherits = λ objects is. is;
   end = refl;
   entries = omega arith;
   last = omega arith;
@@ -167,6 +185,8 @@ taking_grows plain (Some other) lowest = same_grows plain
 with_plan_grows : (plain : PlainState) (plan : Option (List CopiedSector)) → GrowsByOne plain (record plain { plan = plan })
 with_plan_grows plain plan = record {
   geometry = refl;
+  chain = refl;
+  inherits = λ objects is. is;
   end = refl;
   entries = omega arith;
   last = omega arith;
@@ -186,6 +206,8 @@ copy_grows plain is_sealed None = same_grows plain
 copy_grows plain false (Some plan) = same_grows plain
 copy_grows plain true (Some plan) = record {
   geometry = refl;
+  chain = refl;
+  inherits = λ objects is. is;
   end = refl;
   entries = omega arith;
   last = omega arith;
@@ -318,3 +340,18 @@ still_at_once old new keeps at_once = record {
   none_out = keeps.removal ∙ at_once.none_out;
   gone = keeps.given_out ∙ at_once.gone ∙ sym keeps.removed;
 }
+
+-- ---- what is expected and said of it
+
+-- the same is expected of the objects
+pub same_expected : (old new : PlainState) → GrowsByOne old new → expected_of_plain new ≡ expected_of_plain old
+same_expected old new grows =
+    ap (λ (g : Geometry). expected_of script_uuid g (length new.chain)) grows.geometry
+    ∙ ap (λ (chain : List Ancestor). expected_of script_uuid old.geometry (length chain)) grows.chain
+
+-- and what a store says of the one it says of the other
+pub described_still : (old new : PlainState) (epoch : ℕ) (objects : Objects) → GrowsByOne old new
+    → HasVolume script_uuid old.geometry old.chain epoch objects → HasVolume script_uuid new.geometry new.chain epoch objects
+described_still old new epoch objects grows described =
+    subst (λ chain. HasVolume script_uuid new.geometry chain epoch objects) (sym grows.chain)
+    (subst (λ g. HasVolume script_uuid g old.chain epoch objects) (sym grows.geometry) described)

@@ -39,7 +39,7 @@ use Rattle.plain_disk.specs.Step.{plain_reply, plain_after}
 use Rattle.plain_disk.proofs.CheckpointLemmas.{given_is_unneeded}
 use Rattle.plain_disk.proofs.OpeningLemmas.{events_keep_opening}
 use Rattle.plain_disk.proofs.MarkedLemmas.{events_seal}
-use Rattle.refine_store.specs.Puts.{IsObjectOf}
+use Rattle.refine_store.specs.Puts.{IsObjectOf, Inherits}
 use Rattle.refine_store.proofs.JobLemmas.{job_is_object}
 use Rattle.refine_store.proofs.KeepLemmas.{events_keep_object}
 use Rattle.vol_core.specs.declared.event.Event.{Event}
@@ -64,9 +64,9 @@ use Rattle.object_uploads.specs.Image.{IsReceiptFor}
 use Rattle.replay_rig.specs.Rig.{RigState, rig_of, script_uuid, expected_of_plain, AreUnderWay, HasBytesOfObject, HasStored}
 use Rattle.replay_rig.specs.Rig.{IsKeptObject, ShowsPlain}
 use Rattle.replay_rig.proofs.PlainLemmas.{GrowsByOne, KeepsRemovals, is_no_removal, event_grows, event_keeps_removals}
-use Rattle.replay_rig.proofs.PlainLemmas.{still_at_once}
+use Rattle.replay_rig.proofs.PlainLemmas.{still_at_once, same_expected, described_still}
 use Rattle.replay_rig.proofs.Says.{says_reply, done_counts}
-use Rattle.replay_rig.proofs.Describing.{put_keeps_volume, put_leaves_none}
+use Rattle.replay_rig.proofs.Describing.{put_keeps_volume, put_inherits, put_leaves_none}
 use Rattle.replay_rig.proofs.Stepped.{ShowsVolume, volume_shown, step_of_plain, bytes_kept, on_its_way, stored_still}
 use Rattle.replay_rig.proofs.Stepped.{put_objects_still, young_still, KeepsUnderWay, same_under_way, goes_on}
 use Rattle.replay_rig.proofs.WindowLemmas.{open_above, started_is_open, ready_is_open, marked_numbers, without_others}
@@ -182,9 +182,10 @@ puts_go_on : (old : RigState) (volume : SteppedVolume) (objects : Objects) (puts
     → ShowsVolume h.epoch volume.volume (plain_after asked plain)
     → AreUnderWay (plain_after asked plain).window.objects puts → AllByRecursion (IsKnownPut plain old.volume.volume) puts
     → KeepsRemovals plain (plain_after asked plain) → HasStored (plain_after asked plain) objects
-    → HasVolume script_uuid plain.geometry h.epoch objects → HasHolds (expected_of_plain plain) [] objects
+    → HasVolume script_uuid plain.geometry plain.chain h.epoch objects → Inherits script_uuid plain objects
+    → HasHolds (expected_of_plain plain) [] objects
     → ShowsPlain (rig_after old volume objects puts) (plain_after asked plain)
-puts_go_on old volume objects puts event reply asked plain h of now are known removals stored described holds =
+puts_go_on old volume objects puts event reply asked plain h of now are known removals stored described inherits holds =
     let next : PlainState = plain_after asked plain in
     let grows = event_grows plain asked in
     let object_stays = λ (number : ℕ) (bytes : List ℕ) (is : IsObjectOf (expected_of_plain plain) plain number bytes).
@@ -194,7 +195,8 @@ puts_go_on old volume objects puts event reply asked plain h of now are known re
       pending = now.pending;
       epoch = h.epoch;
       own = now.own;
-      described = subst (λ g. HasVolume script_uuid g h.epoch objects) (sym grows.geometry) described;
+      described = described_still plain next h.epoch objects grows described;
+      inherits = grows.inherits objects inherits;
       begun = omega (arith, h.begun);
       uuid_is = now.uuid_is;
       opens = events_keep_opening plain asked h.opens;
@@ -206,7 +208,7 @@ puts_go_on old volume objects puts event reply asked plain h of now are known re
           (on_its_way volume.volume next puts now.shows are) (known_bytes plain old.volume.volume puts known);
       stored = stored;
       unheld = grows.held ∙ h.unheld;
-      holds = subst (λ g. HasHolds (expected_of script_uuid g) [] objects) (sym grows.geometry) holds;
+      holds = subst (λ volume. HasHolds volume [] objects) (sym (same_expected plain next grows)) holds;
       removes = still_at_once plain next removals h.removes;
       young = young_still old volume objects puts old.is_stopping plain next grows (omega (arith, of.count))
           (omega (arith, of.step.numbers.commits)) h.young;
@@ -328,8 +330,9 @@ job_of_rig rig plain n job h uploads open_ told is_job =
     let object = job_is_object h.shows.data_at objects plain n job uploads h.shows.valid h.shows.objects
     (omega (arith, within.0, frontier, below)) (omega (arith, within.1, last)) told is_job in
     let expected : expected_of_volume objects ≡ expected_of_plain plain =
-    ap (λ (g : Geometry). expected_of objects.uploads.uuid g) h.shows.objects.geometry
-    ∙ ap (λ uuid. expected_of uuid plain.geometry) h.uuid_is in
+    ap (λ (g : Geometry). expected_of objects.uploads.uuid g objects.uploads.ancestors) h.shows.objects.geometry
+    ∙ ap (expected_of objects.uploads.uuid plain.geometry) h.shows.objects.ancestors
+    ∙ ap (λ uuid. expected_of uuid plain.geometry (length plain.chain)) h.uuid_is in
     record {
       object = subst (λ e. IsObjectOf e plain n job.bytes) expected object;
       waits = ap (λ (w : WindowState). list_any (has_number n) w.objects) window ∙ open_;
@@ -357,7 +360,7 @@ job_begun old volume job plain uploads of h tells now =
     (job_of_rig old plain n job h uploads open_ (of.told all_told) tells.1)
     (known_puts old plain h))
     (event_keeps_removals plain events.TakeJob refl) (stored_marked n true old plain events.TakeJob h window refl) h.described
-    h.holds
+    h.inherits h.holds
 
 pub begun_some : (old : RigState) (volume : SteppedVolume) (job : JobState) (number : ℕ) (list : List PutView)
     → number ≡ job.name.number
@@ -405,7 +408,7 @@ job_failed n old volume job reply plain started of h now =
     (all_failed (IsKnownPut plain old.volume.volume) n old.puts
     (λ put known. record { object = known.object; waits = known.waits; bytes = known.bytes }) (known_puts old plain h))
     (event_keeps_removals plain (events.JobFailed (Some n)) refl)
-    (stored_marked n false old plain (events.JobFailed (Some n)) h window refl) h.described h.holds
+    (stored_marked n false old plain (events.JobFailed (Some n)) h window refl) h.described h.inherits h.holds
 
 pub failed_answers : (n : ℕ) (old : RigState) (volume : SteppedVolume) (job : JobState) (reply : Reply Kept) (list : List PutView)
     → ((plain : PlainState) → ShowsPlain old plain → IsTrue (is_started n plain.window.objects)) → job.name.number ≡ n
@@ -520,7 +523,7 @@ stored_done : (n : ℕ) (bytes : List ℕ) (plain next : PlainState) (old new : 
     → IsObjectOf (expected_of_plain plain) next number more)
     → HasStored plain old → HasStored next new
 stored_done n bytes plain next old new grows removals kept window order past most put object keeps stored =
-    let same : expected_of_plain next ≡ expected_of_plain plain = ap (expected_of script_uuid) grows.geometry in
+    let same : expected_of_plain next ≡ expected_of_plain plain = same_expected plain next grows in
     let object_next = λ (number : ℕ) (more : List ℕ) (is : IsObjectOf (expected_of_plain plain) plain number more).
     subst (λ e. IsObjectOf e next number more) (sym same) (keeps number more is) in
     record {
@@ -590,8 +593,9 @@ job_done n bytes old volume store job receipt reply plain started is put of h no
     (λ number more object. events_keep_object (expected_of_plain plain) plain number more (events.JobDone (Some n))
     h.shows.valid h.opens object)
     h.stored)
-    (put_keeps_volume n bytes old.objects store plain.geometry h.epoch put h.described)
-    (put_leaves_none n bytes old.objects store plain.geometry put h.holds)
+    (put_keeps_volume n bytes old.objects store plain.geometry plain.chain h.epoch put h.described)
+    (put_inherits n bytes old.objects store plain put h.inherits)
+    (put_leaves_none n bytes old.objects store plain.geometry (length plain.chain) put h.holds)
 
 -- the plain volume's put is done, and the rig shows it
 done_on : (n : ℕ) (old : RigState) (volume : SteppedVolume) (store : Objects) (job : JobState) (receipt : Kept)

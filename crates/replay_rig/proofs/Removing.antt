@@ -1,6 +1,6 @@
 -- A removal of an object is made where it began, and the rig shows what that makes of the plain volume.
 use Rattle.std.proofs.Common.{◌≡◌, ℕ, ◌+◌, Bool, true, false, cond, ◌||◌, nat_eq, List, [], ◌∷◌, ◌++◌, refl, sym, ◌∙◌, ap, subst}
-use Rattle.std.proofs.Common.{inl, inr, arith}
+use Rattle.std.proofs.Common.{inl, inr, arith, length}
 use Rattle.std.specs.Prelude.{Option, Some, None, is_some, IsTrue}
 use Rattle.std.proofs.Math.Bool.{or-false}
 use Rattle.std.proofs.lemmas.Bool.{eq-eqb}
@@ -40,7 +40,7 @@ use Rattle.replay_rig.specs.Answers.{SaysReply}
 use Rattle.replay_rig.specs.Steps.{AnswersRemoval}
 use Rattle.replay_rig.specs.Rig.{RigState, rig_of, script_uuid, expected_of_plain, HasBytesOfObject, IsKeptObject, HasStored}
 use Rattle.replay_rig.specs.Rig.{ShowsPlain}
-use Rattle.replay_rig.proofs.Describing.{removed_keeps_volume, removed_leaves_none}
+use Rattle.replay_rig.proofs.Describing.{removed_keeps_volume, removed_inherits, removed_leaves_none}
 use Rattle.replay_rig.proofs.Rooms.{no_step_rig}
 use Rattle.replay_rig.proofs.Stepped.{ShowsVolume, volume_shown, step_of_plain, all_puts, bytes_kept, on_its_way}
 
@@ -151,7 +151,7 @@ gone n plain = record plain {
 object_gone : (volume : Expected) (n : ℕ) (plain : PlainState) (number : ℕ) (bytes : List ℕ)
     → IsObjectOf volume plain number bytes → IsObjectOf volume (gone n plain) number bytes
 object_gone volume n plain number bytes (inl is) =
-    inl (record { first = is.first; rows = is.rows; is_checkpoint = is.is_checkpoint; says = is.says })
+    inl (record { first = is.first; rows = is.rows; is_checkpoint = is.is_checkpoint; says = is.says; places = is.places })
 object_gone volume n plain number bytes (inr is) =
     inr (record {
       past = is.past;
@@ -230,15 +230,16 @@ shows_gone n old middle volume receipt reply store plain h of back between now i
       pending = now.pending;
       epoch = h.epoch;
       own = now.own;
-      described = removed_keeps_volume n old.objects store plain.geometry h.epoch removed h.described;
+      described = removed_keeps_volume n old.objects store plain.geometry plain.chain h.epoch removed h.described;
+      inherits = removed_inherits n old.objects store plain removed h.inherits;
       begun = omega (arith, h.begun);
       uuid_is = now.uuid_is;
       opens = record {
         number = h.opens.number;
         end = h.opens.end;
-        opening = h.opens.opening;
-        owned = h.opens.owned;
         payloads = h.opens.payloads;
+        inherited = h.opens.inherited;
+        zeros = h.opens.zeros;
       };
       seals = subst SealsCheckpoints (taken_is n plain h.removes.none_out is)
           (events_seal (plain_after events.TakeRemove plain) (events.RemoveDone n) between.shows.valid
@@ -251,7 +252,7 @@ shows_gone n old middle volume receipt reply store plain h of back between now i
           (on_its_way volume.volume (gone n plain) old.puts now.shows h.puts) bytes;
       stored = stored_gone n plain old.objects store removed h.stored;
       unheld = h.unheld;
-      holds = removed_leaves_none n old.objects store plain.geometry removed h.holds;
+      holds = removed_leaves_none n old.objects store plain.geometry (length plain.chain) removed h.holds;
       removes = record { none_out = refl; gone = ap (λ numbers. numbers ++ n ∷ []) h.removes.gone };
       young = record {
         entries = omega (arith, h.young.entries);

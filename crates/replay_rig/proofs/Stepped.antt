@@ -18,9 +18,7 @@ use Rattle.plain_disk.proofs.MarkedLemmas.{events_seal}
 use Rattle.refine_log.specs.Pending.{ShowsPending}
 use Rattle.refine_store.specs.Puts.{IsObjectOf}
 use Rattle.refine_store.proofs.KeepLemmas.{events_keep_object}
-use Rattle.object_recovery.specs.Checkpoints.{expected_of}
 use Rattle.refine_mount.specs.Found.{HasHolds}
-use Rattle.stopped_volume.specs.Super.{HasVolume}
 use Rattle.vol_core.specs.declared.event.Event.{Event}
 use Rattle.vol_core.specs.declared.reply.Reply.{Reply}
 use Rattle.vol_core.specs.Volume.{VolumeState, SteppedVolume}
@@ -32,7 +30,7 @@ use Rattle.vol_core.specs.Stops.{HasOwnCommits}
 use Rattle.replay_rig.specs.Puts.{PutView}
 use Rattle.replay_rig.specs.Rig.{RigState, rig_of, script_uuid, owner_at, expected_of_plain, AreUnderWay, IsFirstUnderWay}
 use Rattle.replay_rig.specs.Rig.{HasBytesOfObject, HasStored, IsYoung, ShowsPlain}
-use Rattle.replay_rig.proofs.PlainLemmas.{GrowsByOne, KeepsRemovals, event_grows, still_at_once}
+use Rattle.replay_rig.proofs.PlainLemmas.{GrowsByOne, KeepsRemovals, event_grows, still_at_once, same_expected, described_still}
 
 -- ---- one step
 
@@ -167,7 +165,7 @@ pub stored_still : (old new : PlainState) (objects : Objects) → GrowsByOne old
     → ((number : ℕ) → 0 < number → IsAcknowledged old.window number → IsAcknowledged new.window number)
     → HasStored old objects → HasStored new objects
 stored_still old new objects grows removals keeps back forth stored =
-    let same : expected_of_plain new ≡ expected_of_plain old = ap (expected_of script_uuid) grows.geometry in
+    let same : expected_of_plain new ≡ expected_of_plain old = same_expected old new grows in
     record {
       there = λ number is.
           let had = stored.there number (record {
@@ -189,7 +187,7 @@ pub put_objects_still : (old new : PlainState) (puts : List PutView) → GrowsBy
     → IsObjectOf (expected_of_plain old) new number bytes)
     → AllByRecursion (HasBytesOfObject old) puts → AllByRecursion (HasBytesOfObject new) puts
 put_objects_still old new puts grows keeps all =
-    let same : expected_of_plain new ≡ expected_of_plain old = ap (expected_of script_uuid) grows.geometry in
+    let same : expected_of_plain new ≡ expected_of_plain old = same_expected old new grows in
     all_puts (HasBytesOfObject old) (HasBytesOfObject new) puts
     (λ put has. subst (λ e. IsObjectOf e new put.number put.bytes) (sym same) (keeps put.number put.bytes has)) all
 
@@ -235,7 +233,8 @@ goes_on_with old volume lines event reply asked plain h of now keeps removals la
       pending = now.pending;
       epoch = h.epoch;
       own = now.own;
-      described = subst (λ g. HasVolume script_uuid g h.epoch old.objects) (sym grows.geometry) h.described;
+      described = described_still plain next h.epoch old.objects grows h.described;
+      inherits = grows.inherits old.objects h.inherits;
       begun = omega (arith, h.begun, later);
       uuid_is = now.uuid_is;
       opens = events_keep_opening plain asked h.opens;
@@ -248,7 +247,7 @@ goes_on_with old volume lines event reply asked plain h of now keeps removals la
           (on_its_way volume.volume next old.puts now.shows under_way) h.bytes;
       stored = stored_still plain next old.objects grows removals object_stays keeps.back keeps.forth h.stored;
       unheld = grows.held ∙ h.unheld;
-      holds = subst (λ g. HasHolds (expected_of script_uuid g) [] old.objects) (sym grows.geometry) h.holds;
+      holds = subst (λ volume. HasHolds volume [] old.objects) (sym (same_expected plain next grows)) h.holds;
       removes = still_at_once plain next removals h.removes;
       young = young;
     }

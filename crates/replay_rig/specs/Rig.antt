@@ -13,15 +13,14 @@ use Rattle.stopped_volume.specs.Super.{HasVolume}
 use Rattle.upload_window.specs.declared.object.OpenObject.{OpenObject}
 use Rattle.upload_window.specs.Window.{IsAcknowledged}
 use Rattle.plain_disk.specs.declared.log.PlainCommit.{PlainCommit}
-use Rattle.plain_disk.specs.State.{PlainState, OpensBlank, history_length, frontier_of}
+use Rattle.plain_disk.specs.State.{PlainState, OpensFirst, history_length, frontier_of}
 use Rattle.plain_disk.specs.Removals.{has}
 use Rattle.plain_disk.specs.Stops.{recovered_number}
 use Rattle.plain_disk.specs.Found.{SealsCheckpoints, found_in}
-use Rattle.object_recovery.specs.Checkpoints.{expected_of}
 use Rattle.refine_log.specs.Stops.{IsFoundCommit, HasCommit}
-use Rattle.refine_mount.specs.Found.{HasHolds, HasObjects}
+use Rattle.refine_mount.specs.Found.{expected_for, HasHolds, HasObjects}
 use Rattle.refine_mount.specs.Mounted.{end_of_object}
-use Rattle.refine_store.specs.Puts.{IsObjectOf}
+use Rattle.refine_store.specs.Puts.{IsObjectOf, Inherits}
 use Rattle.vol_core.specs.Volume.{SteppedVolume}
 use Rattle.vol_core.specs.Step.{HasBytesOf}
 use Rattle.vol_core.specs.Shows.{Shows}
@@ -57,7 +56,7 @@ owner_at epoch = owner_with script_uuid epoch
 
 -- what is expected of the objects of a plain volume of a script
 abbrev pub expected_of_plain : PlainState → Expected
-expected_of_plain plain = expected_of script_uuid plain.geometry
+expected_of_plain plain = expected_for script_uuid plain
 
 -- the first of the objects under way is an open object of which a put was ever begun, and its put is out where it is started
 abbrev pub IsFirstUnderWay : (was_started : Bool) → OpenObject → List PutView → (List PutView → Type 0) → Type 0
@@ -103,17 +102,18 @@ pub record IsYoung (rig : RigState) (plain : PlainState) : Type 0 where
 
 -- The rig shows a plain volume: its volume does, with the pending writes of the plain cache, and commits in the epoch that the
 -- store has as the newest of the volume; the objects under way are the plain volume's, and the store has those that are
--- acknowledged, but what was removed. The store has no hold. The plain volume is followed from its first object on, also over
--- mounts.
+-- acknowledged, but what was removed, and what the volume opens with of its ancestors. The store has no hold. The plain volume is
+-- followed from its first object on, also over mounts.
 pub record ShowsPlain (rig : RigState) (plain : PlainState) : Type 0 where
   pub shows : Shows rig.volume.volume plain
   pub pending : PendsAs rig.volume.volume plain.cache
   pub epoch : ℕ
   pub own : HasOwnCommits (owner_at epoch) rig.volume.volume
-  pub described : HasVolume script_uuid plain.geometry epoch rig.objects
+  pub described : HasVolume script_uuid plain.geometry plain.chain epoch rig.objects
+  pub inherits : Inherits script_uuid plain rig.objects
   pub begun : epoch ≤ rig.lines
   pub uuid_is : volume_uuid rig.volume.volume ≡ script_uuid
-  pub opens : OpensBlank plain
+  pub opens : OpensFirst plain
   pub seals : SealsCheckpoints plain
   pub stopping : rig.is_stopping ≡ is_some plain.cache.left
   pub puts : AreUnderWay plain.window.objects rig.puts

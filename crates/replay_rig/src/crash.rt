@@ -129,11 +129,11 @@ pub(crate) fn mount_again(
     requires fails_none { FailsNone (mount_cost 0) disk }
     requires may { (geometry : Geometry) × MayMountLeft geometry store.old disk }
     ensures ok { IfOk result (λ mounted. OfVolume script_uuid (log_of disk.size) (Some store.old)
-        (λ geometry epoch.
-        IsMountedVolume geometry epoch store.old mounted store.new)) }
+        (λ geometry chain epoch.
+        IsMountedVolume geometry chain epoch store.old mounted store.new)) }
     ensures mounts { IfOk result (λ mounted. OfVolume script_uuid (log_of disk.size) (Some store.old)
-        (λ geometry epoch.
-        MountsLeft (owner_at epoch) geometry (Some store.old) disk mounted)) }
+        (λ geometry chain epoch.
+        MountsLeft (owner_at epoch) geometry chain (Some store.old) disk mounted)) }
     ensures number { IfOk result (NumbersNextCommit (log_of disk.size) disk) }
 {
     match mount_kept(alloc, disk, store, Uuid::from_bytes(UUID)) {
@@ -159,11 +159,11 @@ pub(crate) fn mount_anew(
     requires may { (geometry : Geometry) × (geometry.log ≡ log_of disk.size)
         × MayMountStored geometry store.old }
     ensures ok { IfOk result (λ mounted. OfVolume script_uuid (log_of disk.size) (Some store.old)
-        (λ geometry epoch.
-        IsMountedVolume geometry (epoch + 1) store.old mounted store.new)) }
+        (λ geometry chain epoch.
+        IsMountedVolume geometry chain (epoch + 1) store.old mounted store.new)) }
     ensures mounts { IfOk result (λ mounted. OfVolume script_uuid (log_of disk.size) (Some store.old)
-        (λ geometry epoch.
-        MountsStored script_uuid geometry (Some store.old) mounted)) }
+        (λ geometry chain epoch.
+        MountsStored script_uuid geometry chain (Some store.old) mounted)) }
     ensures number { IfOk result (λ mounted. last_commit mounted.volume.volume ≡ 0) }
 {
     match mount_lost(alloc, disk, store, Uuid::from_bytes(UUID)) {

@@ -1,6 +1,7 @@
 -- Contract: when the bytes of a cache device, with the objects of a store, stand for a volume: what a mount with the cache finds.
-use Rattle.std.specs.Prelude.{◌≡◌, ℕ, ◌-◌, ◌≤◌, Option, IsTrue, true, List, length, take, drop}
+use Rattle.std.specs.Prelude.{◌≡◌, ℕ, ◌-◌, ◌≤◌, IsTrue, true, List, length, take, drop}
 use Rattle.std.specs.List.{All}
+use Rattle.clone_chain.specs.declared.ancestor.Ancestor.{Ancestor}
 use Rattle.lsvd_base.specs.declared.entry.Entry.{Entry}
 use Rattle.lsvd_base.specs.declared.geometry.Geometry.{Geometry}
 use Rattle.lsvd_base.specs.Limits.{is_within_limits}
@@ -11,6 +12,7 @@ use Rattle.commit_body.specs.declared.body.CommitBody.{CommitBody}
 use Rattle.commit_slot.specs.Commits.{ReadsSettled}
 use Rattle.cache_log.specs.Committed.{HasRecords}
 use Rattle.object_format.specs.declared.expected.Expected.{Expected}
+use Rattle.stopped_volume.specs.Ancestors.{uuid_in_chain, HasAncestors}
 use Rattle.stopped_volume.specs.Objects.{ObjectsStandFor}
 use Rattle.stopped_volume.specs.Super.{HasVolume}
 
@@ -46,23 +48,22 @@ pub record DeviceStandsFor (owner : CacheOwner) (geometry : Geometry) (left : Li
   pub rest : entries ≡ drop (seq - body.tail.seq) list
 
 -- Device and store stand for an image up to the end of the object before the first missing one, and for the entries from there
--- on. The store has the volume, and the device is its cache in the newest epoch.
-pub record StandFor (volume : Expected) (geometry : Geometry) (owner : CacheOwner) (uuid_at : ℕ → Option (List ℕ))
-    (left : List ℕ) (objects : Objects)
-    (image : Image) (number end : ℕ) (entries : List Entry) : Type 0 where
+-- on. The store has the volume and its ancestors, and the device is its cache in the newest epoch.
+pub record StandFor (volume : Expected) (geometry : Geometry) (chain : List Ancestor) (owner : CacheOwner)
+    (left : List ℕ) (objects : Objects) (image : Image) (number end : ℕ) (entries : List Entry) : Type 0 where
   pub limits : IsTrue (is_within_limits geometry)
   pub sectors : volume.sectors ≡ geometry.sectors
   pub owned : owner.uuid ≡ volume.uuid
-  pub described : HasVolume volume.uuid geometry owner.epoch objects
-  pub store : ObjectsStandFor volume uuid_at objects image number end
+  pub described : HasVolume volume.uuid geometry chain owner.epoch objects
+  pub ancestors : HasAncestors objects chain
+  pub store : ObjectsStandFor volume (uuid_in_chain volume.uuid chain) objects image number end
   pub device : DeviceStandsFor owner geometry left end entries
 
 -- They stand for the first K entries of a history over an opening image: the objects have those up to their end, and the log has
 -- the others.
-pub record StandForFirst (volume : Expected) (geometry : Geometry) (owner : CacheOwner) (uuid_at : ℕ → Option (List ℕ))
-    (left : List ℕ) (objects : Objects)
-    (opening : Image) (history : List Entry) (number end kept : ℕ) : Type 0 where
+pub record StandForFirst (volume : Expected) (geometry : Geometry) (chain : List Ancestor) (owner : CacheOwner)
+    (left : List ℕ) (objects : Objects) (opening : Image) (history : List Entry) (number end kept : ℕ) : Type 0 where
   pub ends : end ≤ kept
   pub taken : kept ≤ length history
-  pub stands : StandFor volume geometry owner uuid_at left objects (after opening (take end history)) number end
+  pub stands : StandFor volume geometry chain owner left objects (after opening (take end history)) number end
       (drop end (take kept history))

@@ -1,13 +1,15 @@
 -- Contract: what objects of a store stand for.
 use Rattle.std.specs.Prelude.{◌≡◌, ℕ, ◌+◌, ◌-◌, ◌^◌, ◌<◌, ◌≤◌, Some, Option, List, length, take}
 use Rattle.std.specs.List.{All}
+use Rattle.clone_chain.specs.declared.ancestor.Ancestor.{Ancestor}
 use Rattle.lsvd_base.specs.Image.{Image, after}
 use Rattle.lsvd_base.specs.Laws.{EndsBy}
 use Rattle.lsvd_objstore.specs.Objects.{Objects}
 use Rattle.object_format.specs.declared.expected.Expected.{Expected}
-use Rattle.object_stream.specs.Stream.{Stream, objects_to, end_at, last_number, IsStream}
+use Rattle.object_stream.specs.Stream.{Stream, Owners, objects_to, end_at, last_number, IsStream}
 use Rattle.object_stream.specs.Landed.{Numbers, IsFirstMissing}
 use Rattle.object_stream.specs.Stored.{AreStored}
+use Rattle.stopped_volume.specs.Ancestors.{HasInherited, KeepsOtherVolumes}
 use Rattle.stopped_volume.specs.Opening.{HasOpening}
 use Rattle.stopped_volume.specs.Objects.{landed_in, AreCheckpoints, AreWholePast, ObjectsStandFor}
 
@@ -43,3 +45,12 @@ StandForHistory =
     → HasStreamUpTo volume uuid_at objects stream opening number
     → ObjectsStandFor volume uuid_at objects (after opening (take (end_at stream number - stream.end) stream.entries)) number
     (end_at stream number)
+
+-- ---- clones
+
+-- what a volume opens with of its ancestors a store has as before, where nothing but the volume's own names changed
+abbrev pub InheritedIsKept : Type 0
+InheritedIsKept =
+    (uuid : List ℕ) (chain : List Ancestor) (owned : Owners) (inherited : ℕ → ℕ) (opening : Image) (old new : Objects)
+    → KeepsOtherVolumes uuid old new → HasInherited uuid chain owned inherited opening old
+    → HasInherited uuid chain owned inherited opening new

@@ -1,6 +1,7 @@
 pub mod Expected
 pub mod Opening
 pub mod Objects
+pub mod Ancestors
 pub mod Super
 pub mod Device
 pub mod Holds

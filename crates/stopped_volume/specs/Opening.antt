@@ -58,9 +58,11 @@ pub record IsOpening (volume : Expected) (uuid_at : ℕ → Option (List ℕ)) (
   pub checkpoint : IsCheckpointOf volume objects number end owned
   pub places : HoldPlaces objects uuid_at checkpoint.rows
 
--- The store has the object at which a stream begins: a checkpoint with the stream's number, end and owners, and this image is
--- their value.
+-- The store has the object at which a stream begins: a checkpoint with the stream's number, end and owners, whose places in
+-- objects of ancestors are the stream's, and this image is the owners' value.
 pub record HasOpening (volume : Expected) (uuid_at : ℕ → Option (List ℕ)) (objects : Objects) (stream : Stream) (image : Image) :
     Type 0 where
   pub is : IsOpening volume uuid_at objects stream.number stream.end stream.opening
+  pub inherited : (k : ℕ) (place : StoredPlace) → place_at stored_on is.checkpoint.rows k ≡ Some place → 1 ≤ place.level
+      → place.place ≡ stream.inherited k
   pub value : IsValue objects uuid_at stream.opening image

@@ -1,5 +1,6 @@
 -- Contract: what a store says of a volume as a whole: its super object, its epochs and its holds.
-use Rattle.std.specs.Prelude.{◌≡◌, ℕ, ◌^◌, ◌<◌, Some, None, is_some, IsTrue, List, []}
+use Rattle.std.specs.Prelude.{◌≡◌, ℕ, ◌^◌, ◌<◌, Some, None, is_some, IsTrue, List}
+use Rattle.clone_chain.specs.declared.ancestor.Ancestor.{Ancestor}
 use Rattle.lsvd_base.specs.declared.geometry.Geometry.{Geometry}
 use Rattle.lsvd_names.specs.Names.{super_name, epoch_name, hold_name}
 use Rattle.lsvd_objstore.specs.Objects.{Objects, found}
@@ -24,13 +25,13 @@ pub record HasNewestEpoch (uuid : List ℕ) (number : ℕ) (objects : Objects) :
   pub is_epoch : IsEpoch bytes uuid number epoch
   pub newest : (other : ℕ) → number < other → other < 2 ^ 64 → found objects (epoch_name uuid other) ≡ None
 
--- The store has a volume: its super object, which says these sizes and no ancestors, its epochs, of which this is the newest, and
--- its holds, if it has any. The sectors of its log are those of its device.
-pub record HasVolume (uuid : List ℕ) (geometry : Geometry) (epoch : ℕ) (objects : Objects) : Type 0 where
+-- The store has a volume: its super object, which says these sizes and these ancestors, its epochs, of which this is the newest,
+-- and its holds, if it has any. The sectors of its log are those of its device.
+pub record HasVolume (uuid : List ℕ) (geometry : Geometry) (chain : List Ancestor) (epoch : ℕ) (objects : Objects) : Type 0 where
   pub volume : Super
   pub says : HasSuper uuid volume objects
   pub sizes : geometry ≡ geometry_with volume geometry.log
-  pub alone : volume.chain ≡ []
+  pub chain_is : volume.chain ≡ chain
   pub epochs : HasNewestEpoch uuid epoch objects
   pub whole : (number : ℕ) (bytes : List ℕ) → found objects (epoch_name uuid number) ≡ Some bytes → (older : Epoch)
       × IsEpoch bytes uuid number older

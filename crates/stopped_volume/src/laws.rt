@@ -1,4 +1,4 @@
-ghost use Rattle.stopped_volume.specs.Laws.{StandForOneVolume, StandForHistory};
+ghost use Rattle.stopped_volume.specs.Laws.{StandForOneVolume, StandForHistory, InheritedIsKept};
 
 /// A law: objects of a store stand for one image, with one number before the first missing one and one end.
 pub fn objects_stand_for_one_volume()
@@ -9,4 +9,9 @@ pub fn objects_stand_for_one_volume()
 /// entries that are in these.
 pub fn landed_objects_stand_for_the_history()
     ensures { StandForHistory }
+{}
+
+/// A law: what a clone opens with stays in a store while nothing but the clone's own names changes there.
+pub fn what_is_inherited_stays()
+    ensures { InheritedIsKept }
 {}

@@ -5,6 +5,7 @@ use Rattle.std.specs.Prelude.{IfSome, IsTrue, ◌↔◌}
 use Rattle.std.specs.Option.{IsSome}
 use Rattle.std.specs.List.{Contains}
 use Rattle.std.proofs.lemmas.List.Elements.{Contains-append_left, Contains-push, Contains-push_cases}
+use Rattle.clone_chain.specs.declared.ancestor.Ancestor.{Ancestor}
 use Rattle.lsvd_base.specs.declared.geometry.Geometry.{Geometry}
 use Rattle.lsvd_names.specs.declared.name.NameKind.TheVariants as kinds
 use Rattle.lsvd_names.specs.declared.name.ObjName.{ObjName}
@@ -138,11 +139,11 @@ is_found uuid objects it says newest holds = record {
   says = says;
   newest = newest;
   holds = holds;
-  only = λ geometry epoch has.
+  only = λ geometry chain epoch has.
       let same = one_super uuid has.volume it.volume objects has.says says in
       record {
         sizes = sizes_of_super geometry has.volume it.volume has.sizes same;
-        alone = sym (ap (λ (v : Super). v.chain) same) ∙ has.alone;
+        chain_is = sym (ap (λ (v : Super). v.chain) same) ∙ has.chain_is;
         epoch_is = one_newest uuid it.epoch epoch objects newest has.epochs;
       };
 }
@@ -182,34 +183,34 @@ bytes_of : (held : Option (List ℕ)) → IsSome held → (bytes : List ℕ) × 
 bytes_of None some = cc
 bytes_of (Some bytes) some = (bytes, refl)
 
-no_volume : (uuid : List ℕ) (objects : Objects) (geometry : Geometry) (epoch : ℕ) (error : SuperError)
+no_volume : (uuid : List ℕ) (objects : Objects) (geometry : Geometry) (chain : List Ancestor) (epoch : ℕ) (error : SuperError)
     → IsWhyVolumeRefused uuid objects error
-    → HasVolume uuid geometry epoch objects → IsNoAnswer error
-no_volume uuid objects geometry epoch errors.NoVolume why has =
+    → HasVolume uuid geometry chain epoch objects → IsNoAnswer error
+no_volume uuid objects geometry chain epoch errors.NoVolume why has =
     one_of (found objects (super_name uuid)) has.says.bytes has.says.present why
-no_volume uuid objects geometry epoch (errors.BadSuper (reasons.Super reason)) why has =
+no_volume uuid objects geometry chain epoch (errors.BadSuper (reasons.Super reason)) why has =
     let same = same_bytes (found objects (super_name uuid)) has.says.bytes why.0 has.says.present why.1 in
     let none = why.2.none has.volume in
     none (subst (λ bytes. IsSuper bytes uuid has.volume) same has.says.is_super)
-no_volume uuid objects geometry epoch (errors.BadSuper reasons.NoEpoch) why has =
+no_volume uuid objects geometry chain epoch (errors.BadSuper reasons.NoEpoch) why has =
     one_of (found objects (epoch_name uuid epoch)) has.epochs.bytes has.epochs.present
     (why.1 epoch (epoch_fits has.epochs.bytes uuid epoch has.epochs.epoch has.epochs.is_epoch))
-no_volume uuid objects geometry epoch (errors.BadSuper (reasons.BadEpoch number)) why has =
+no_volume uuid objects geometry chain epoch (errors.BadSuper (reasons.BadEpoch number)) why has =
     let held = bytes_of (found objects (epoch_name uuid number)) why.1.present in
     let whole = has.whole number held.0 held.1 in
     why.1.bad (record { bytes = held.0; present = held.1; epoch = whole.0; is_epoch = whole.1 })
-no_volume uuid objects geometry epoch (errors.BadSuper (reasons.BadHold number)) why has =
+no_volume uuid objects geometry chain epoch (errors.BadSuper (reasons.BadHold number)) why has =
     let held = bytes_of (found objects (hold_name uuid number)) why.2.present in
     let good = has.holds number held.0 held.1 in
     why.2.bad (record { bytes = held.0; present = held.1; hold = good.0; is_hold = good.1 })
-no_volume uuid objects geometry epoch errors.StoreFault why has = tt
-no_volume uuid objects geometry epoch errors.OutOfMemory why has = tt
+no_volume uuid objects geometry chain epoch errors.StoreFault why has = tt
+no_volume uuid objects geometry chain epoch errors.OutOfMemory why has = tt
 
 pub is_refused : (uuid : List ℕ) (objects : Objects) (error : SuperError) → IsWhyVolumeRefused uuid objects error
     → IsVolumeRefused uuid objects error
 is_refused uuid objects error why = record {
   why = why;
-  no_volume = λ geometry epoch has. no_volume uuid objects geometry epoch
+  no_volume = λ geometry chain epoch has. no_volume uuid objects geometry chain epoch
       error why has;
 }
 

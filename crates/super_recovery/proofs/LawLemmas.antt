@@ -1,7 +1,8 @@
 -- What a store says of a volume depends on its super object, its epochs and its holds alone, and is one thing.
-use Rattle.std.proofs.Common.{◌≡◌, ℕ, ◌+◌, ◌^◌, ◌<◌, inl, inr, Some, None, List, sym, ◌∙◌, ap, subst, arith}
+use Rattle.std.proofs.Common.{◌≡◌, ℕ, ◌+◌, ◌^◌, ◌<◌, inl, inr, Some, None, List, refl, sym, ◌∙◌, ap, subst, arith}
 use Rattle.std.specs.Option.{IsSome}
 use Rattle.std.proofs.lemmas.Bool.{cases_eq, cases_order}
+use Rattle.clone_chain.specs.declared.ancestor.Ancestor.{Ancestor}
 use Rattle.lsvd_base.specs.declared.geometry.Geometry.{Geometry}
 use Rattle.lsvd_names.specs.declared.name.ObjName.{ObjName}
 use Rattle.lsvd_names.specs.Names.{super_name, epoch_name, hold_name}
@@ -49,12 +50,13 @@ module _ (uuid : List ℕ) (old new : Objects) (keeps : KeepsVolume uuid old new
     each = λ number has. same_hold number (are.each number has);
   }
 
-  same_volume : (geometry : Geometry) (epoch : ℕ) → HasVolume uuid geometry epoch old → HasVolume uuid geometry epoch new
-  same_volume geometry epoch is = record {
+  same_volume : (geometry : Geometry) (chain : List Ancestor) (epoch : ℕ) → HasVolume uuid geometry chain epoch old
+      → HasVolume uuid geometry chain epoch new
+  same_volume geometry chain epoch is = record {
     volume = is.volume;
     says = same_super is.volume is.says;
     sizes = is.sizes;
-    alone = is.alone;
+    chain_is = is.chain_is;
     epochs = same_newest epoch is.epochs;
     whole = λ number bytes present. is.whole number bytes (sym (keeps.of_epochs number) ∙ present);
     holds = λ number bytes present. is.holds number bytes (sym (keeps.of_holds number) ∙ present);
@@ -130,10 +132,11 @@ pub sizes_of_super : (a : Geometry) (volume other : Super) → a ≡ geometry_wi
 sizes_of_super a volume other sizes same = sizes ∙ ap (λ v. geometry_with v a.log) same
 
 pub one_volume : HasOneVolume
-one_volume uuid a b m n objects is other =
+one_volume uuid a b c d m n objects is other =
     let same = one_super uuid is.volume other.volume objects is.says other.says in
     let with_log : Geometry → Geometry = λ geometry. record geometry { log = a.log } in (
       sizes_of_super a is.volume other.volume is.sizes same ∙ sym (ap with_log other.sizes),
+      sym is.chain_is ∙ ap (λ (v : Super). v.chain) same ∙ other.chain_is,
       one_newest uuid m n objects is.epochs other.epochs,
     )
 
@@ -168,7 +171,7 @@ whole_with uuid put objects has rest number bytes present =
     ]
 
 pub next_epoch_is_begun : NextEpochIsBegun
-next_epoch_is_begun uuid geometry epoch old new is puts =
+next_epoch_is_begun uuid geometry chain epoch old new is puts =
     let of_super = puts.others (super_name uuid) (apart_kind uuid (epoch + 1)) in
     let others : (number : ℕ) → (number ≡ epoch + 1 → ⊥)
     → found new (epoch_name uuid number) ≡ found old (epoch_name uuid number) =
@@ -177,7 +180,7 @@ next_epoch_is_begun uuid geometry epoch old new is puts =
       volume = is.volume;
       says = record { bytes = is.says.bytes; present = of_super ∙ is.says.present; is_super = is.says.is_super };
       sizes = is.sizes;
-      alone = is.alone;
+      chain_is = is.chain_is;
       epochs = record {
         bytes = puts.has.bytes;
         present = puts.has.present;
@@ -193,11 +196,11 @@ next_epoch_is_begun uuid geometry epoch old new is puts =
     }
 
 pub volume_is_created : VolumeIsCreated
-volume_is_created volume geometry objects sizes alone says has none no_holds = record {
+volume_is_created volume geometry objects sizes says has none no_holds = record {
   volume = volume;
   says = says;
   sizes = sizes;
-  alone = alone;
+  chain_is = refl;
   epochs = record {
     bytes = has.bytes;
     present = has.present;

@@ -1,6 +1,7 @@
 -- Contract: what is found of a volume as a whole in a store, or why it is refused.
-use Rattle.std.specs.Prelude.{◌≡◌, ℕ, ◌^◌, ◌<◌, ◌≤◌, Option, Some, None, IsSome, List, []}
+use Rattle.std.specs.Prelude.{◌≡◌, ℕ, ◌^◌, ◌<◌, ◌≤◌, Option, Some, None, IsSome, List}
 use Rattle.std.specs.List.{Contains}
+use Rattle.clone_chain.specs.declared.ancestor.Ancestor.{Ancestor}
 use Rattle.lsvd_base.specs.declared.geometry.Geometry.{Geometry}
 use Rattle.lsvd_names.specs.declared.name.NameKind.TheVariants as kinds
 use Rattle.lsvd_names.specs.declared.name.ObjName.{ObjName}
@@ -89,10 +90,10 @@ IsWhyVolumeRefused uuid objects errors.OutOfMemory = Unit {0}
 
 -- ---- the whole
 
--- what was found is a volume of these sizes, without ancestors, in this epoch
-pub record IsFoundVolume (geometry : Geometry) (epoch : ℕ) (it : FoundVolume) : Type 0 where
+-- what was found is a volume of these sizes, with these ancestors, in this epoch
+pub record IsFoundVolume (geometry : Geometry) (chain : List Ancestor) (epoch : ℕ) (it : FoundVolume) : Type 0 where
   pub sizes : geometry ≡ geometry_with it.volume geometry.log
-  pub alone : it.volume.chain ≡ []
+  pub chain_is : it.volume.chain ≡ chain
   pub epoch_is : it.epoch ≡ epoch
 
 -- the volume that was found is what the store says of it, and so the one that the store has, if it has one
@@ -100,9 +101,11 @@ pub record IsFound (uuid : List ℕ) (objects : Objects) (it : FoundVolume) : Ty
   pub says : HasSuper uuid it.volume objects
   pub newest : HasNewestEpoch uuid it.epoch objects
   pub holds : AreHolds uuid it.holds.items objects
-  pub only : (geometry : Geometry) (epoch : ℕ) → HasVolume uuid geometry epoch objects → IsFoundVolume geometry epoch it
+  pub only : (geometry : Geometry) (chain : List Ancestor) (epoch : ℕ) → HasVolume uuid geometry chain epoch objects
+      → IsFoundVolume geometry chain epoch it
 
 -- an error with its reason, which refuses no volume that the store has
 pub record IsVolumeRefused (uuid : List ℕ) (objects : Objects) (error : SuperError) : Type 0 where
   pub why : IsWhyVolumeRefused uuid objects error
-  pub no_volume : (geometry : Geometry) (epoch : ℕ) → HasVolume uuid geometry epoch objects → IsNoAnswer error
+  pub no_volume : (geometry : Geometry) (chain : List Ancestor) (epoch : ℕ) → HasVolume uuid geometry chain epoch objects
+      → IsNoAnswer error

@@ -1,5 +1,6 @@
 -- Contract: on which objects it depends what a store says of a volume as a whole, and how it changes.
-use Rattle.std.specs.Prelude.{◌≡◌, ℕ, ◌+◌, ◌<◌, ◌⊎◌, None, List, []}
+use Rattle.std.specs.Prelude.{◌≡◌, ℕ, ◌+◌, ◌<◌, ◌⊎◌, None, List}
+use Rattle.clone_chain.specs.declared.ancestor.Ancestor.{Ancestor}
 use Rattle.lsvd_base.specs.declared.geometry.Geometry.{Geometry}
 use Rattle.lsvd_names.specs.declared.name.NameKind.{NameKind}
 use Rattle.lsvd_names.specs.declared.name.NameKind.TheVariants.{Super, Epoch, Object, Hold}
@@ -26,7 +27,8 @@ pub record SaysAsBefore (uuid : List ℕ) (old new : Objects) : Type 0 where
   pub says : (volume : supers.Super) → HasSuper uuid volume old → HasSuper uuid volume new
   pub newest : (number : ℕ) → HasNewestEpoch uuid number old → HasNewestEpoch uuid number new
   pub holds : (numbers : List ℕ) → AreHolds uuid numbers old → AreHolds uuid numbers new
-  pub has : (geometry : Geometry) (epoch : ℕ) → HasVolume uuid geometry epoch old → HasVolume uuid geometry epoch new
+  pub has : (geometry : Geometry) (chain : List Ancestor) (epoch : ℕ) → HasVolume uuid geometry chain epoch old
+      → HasVolume uuid geometry chain epoch new
 
 abbrev pub SaysTheSame : Type 0
 SaysTheSame = (uuid : List ℕ) (old new : Objects) → KeepsVolume uuid old new → SaysAsBefore uuid old new
@@ -61,26 +63,26 @@ abbrev pub HasOneNewest : Type 0
 HasOneNewest =
     (uuid : List ℕ) (m n : ℕ) (objects : Objects) → HasNewestEpoch uuid m objects → HasNewestEpoch uuid n objects → m ≡ n
 
--- its sizes, but for the sectors of its log, and its epoch
+-- its sizes, but for the sectors of its log, its ancestors, and its epoch
 abbrev pub HasOneVolume : Type 0
 HasOneVolume =
-    (uuid : List ℕ) (a b : Geometry) (m n : ℕ) (objects : Objects) → HasVolume uuid a m objects → HasVolume uuid b n objects
-    → (a ≡ record b { log = a.log }) × (m ≡ n)
+    (uuid : List ℕ) (a b : Geometry) (c d : List Ancestor) (m n : ℕ) (objects : Objects) → HasVolume uuid a c m objects
+    → HasVolume uuid b d n objects → (a ≡ record b { log = a.log }) × (c ≡ d) × (m ≡ n)
 
 -- ---- puts
 
 -- the epoch after that of a volume was put
 abbrev pub NextEpochIsBegun : Type 0
 NextEpochIsBegun =
-    (uuid : List ℕ) (geometry : Geometry) (epoch : ℕ) (old new : Objects) → HasVolume uuid geometry epoch old
-    → PutsEpoch uuid (epoch + 1) old new → HasVolume uuid geometry (epoch + 1) new
+    (uuid : List ℕ) (geometry : Geometry) (chain : List Ancestor) (epoch : ℕ) (old new : Objects)
+    → HasVolume uuid geometry chain epoch old → PutsEpoch uuid (epoch + 1) old new
+    → HasVolume uuid geometry chain (epoch + 1) new
 
--- the super object of a volume without ancestors stands there, its epoch 0 alone, and no hold
+-- the super object of a volume stands there, its epoch 0 alone, and no hold
 abbrev pub VolumeIsCreated : Type 0
 VolumeIsCreated =
     (volume : supers.Super) (geometry : Geometry) (objects : Objects) → geometry ≡ geometry_with volume geometry.log
-    → volume.chain ≡ []
     → HasSuper volume.uuid volume objects → HasEpoch volume.uuid 0 objects
     → ((number : ℕ) → 0 < number → found objects (epoch_name volume.uuid number) ≡ None)
     → ((number : ℕ) → found objects (hold_name volume.uuid number) ≡ None)
-    → HasVolume volume.uuid geometry 0 objects
+    → HasVolume volume.uuid geometry volume.chain 0 objects

@@ -2,11 +2,14 @@
 //! mount without the cache write of it.
 //!
 //! Its contract: the volume that is found is the one whose super object the store has, with its newest epoch
-//! and all its holds, and a volume that the store has is never refused. Finding changes nothing. A put is
-//! that of one super object or of one epoch, and no other object is changed. It stands on `lsvd_objstore` for
-//! the store, on `super_format` for the bytes of each, and on `refusals` for what is bad of them.
+//! and all its holds, and a volume that the store has is never refused. Of a clone's ancestors, the nearest
+//! of which the store lacks something is told. Finding changes nothing. A put is that of one super object or
+//! of one epoch, and no other object is changed. It stands on `lsvd_objstore` for the store, on
+//! `super_format` for the bytes of each, on `clone_chain` for ancestors, and on `refusals` for what is bad of
+//! them.
 #![tactic(auto)]
 
+mod ancestors;
 mod error;
 mod finding;
 mod holding;
@@ -14,6 +17,7 @@ mod laws;
 mod putting;
 mod reading;
 
+pub use ancestors::missing_ancestor;
 pub use error::SuperError;
 pub use finding::{FoundVolume, find_volume, has_super};
 pub use laws::{

@@ -1,9 +1,9 @@
 -- What a check reports and refuses, where the store tells its objects.
-use Rattle.std.proofs.Common.{◌≡◌, ℕ, ◌<◌, ◌≤◌, inl, inr, Option, Some, None, List, map, sym, subst}
+use Rattle.std.proofs.Common.{◌≡◌, ℕ, ◌<◌, ◌≤◌, inl, inr, Option, Some, None, List, sym, subst}
 use Rattle.std.specs.Prelude.{◌⊎◌, ◌↔◌, IfSome}
 use Rattle.std.specs.BTreeSet.{BTreeSet}
 use Rattle.std.specs.List.{Contains}
-use Rattle.std.specs.List.Sorted.{IsStrictlyIncreasing}
+use Rattle.clone_chain.specs.declared.ancestor.Ancestor.{Ancestor}
 use Rattle.lsvd_base.specs.declared.geometry.Geometry.{Geometry}
 use Rattle.lsvd_names.specs.Spelling.{IsUuid}
 use Rattle.lsvd_names.specs.declared.name.ObjName.{ObjName}
@@ -14,6 +14,7 @@ use Rattle.object_format.specs.declared.expected.Expected.{Expected}
 use Rattle.ckpt_format.specs.declared.place.StoredPlace.{StoredPlace}
 use Rattle.ckpt_format.specs.Checkpoint.{IsCheckpoint}
 use Rattle.object_stream.specs.Replay.{object_name}
+use Rattle.stopped_volume.specs.Ancestors.{uuid_in_chain}
 use Rattle.stopped_volume.specs.Expected.{expected_alone}
 use Rattle.stopped_volume.specs.Opening.{owned_by}
 use Rattle.super_recovery.specs.Holds.{AreHoldsAmong}
@@ -26,8 +27,10 @@ use Rattle.object_recovery.specs.Checkpoints.{IsReadCheckpoint, IsStoredCheckpoi
 use Rattle.object_recovery.specs.Faults.{IsNoAnswer}
 use Rattle.object_recovery.proofs.HoldingLemmas.{is_stored}
 use Rattle.vol_check.specs.declared.report.CheckReport.{CheckReport}
-use Rattle.vol_check.specs.Report.{HasCheckpointHeader, IsReportOf, IsWhyNotChecked, own_missing}
-use Rattle.vol_check.specs.Steps.{Has, IsFilterOf, JudgesTo, NamesAll, RefusesNamed, RefusesPast, object_numbers}
+use Rattle.vol_check.specs.declared.report.ObjectOfLevel.{ObjectOfLevel}
+use Rattle.vol_check.specs.Report.{HasCheckpointHeader, IsReportOf, IsWhyNotChecked, own_object}
+use Rattle.vol_check.specs.Steps.{Has, IsAway, IsFilterOf, IsNoneOf, IsPartOf, JudgesTo, NamesAll, RefusesNamed, RefusesPast}
+use Rattle.vol_check.specs.Steps.{object_numbers}
 use Rattle.vol_check.proofs.RefusalLemmas.{no_answer_why, refused_past, refused_held}
 use Rattle.vol_check.proofs.ReportLemmas.{is_report}
 
@@ -59,7 +62,7 @@ moved_rows given volume raw base bytes of is value read =
     )
 
 pub moved_names : (new old : StoreState) (given volume : Expected) (raw base : ReadCheckpoint) (bytes slice holds : List ℕ)
-    (named : BTreeSet ℕ) → new ≡ old → given ≡ volume → raw ≡ base → bytes ≡ raw.bytes → slice ≡ holds
+    (named : BTreeSet ObjectOfLevel) → new ≡ old → given ≡ volume → raw ≡ base → bytes ≡ raw.bytes → slice ≡ holds
     → IfSome new.objects (λ objects. NamesAll given objects raw.number bytes slice named)
     → IfSome old.objects (λ objects. NamesAll volume objects base.number base.bytes holds named)
 moved_names new old given volume raw base bytes slice holds named same of is value all so =
@@ -75,17 +78,20 @@ pub record IsBegun (volume : Expected) (objects : Objects) (base : ReadCheckpoin
   pub newest : IsNewestWithEnd volume objects base.number base.end
   pub present : found objects (object_name volume base.number) ≡ Some base.bytes
 
-module _ (told : Option Objects) (uuid : List ℕ) (is_uuid : IsUuid uuid) (geometry : Geometry) (names : List ObjName) where
+module _ (told : Option Objects) (uuid : List ℕ) (is_uuid : IsUuid uuid) (geometry : Geometry) (ancestors : ℕ)
+    (names : List ObjName) where
   abbrev volume : Expected
-  volume = expected_of uuid geometry
+  volume = expected_of uuid geometry ancestors
 
   pub told_begun : (base : ReadCheckpoint) → IsReadCheckpoint volume base
       → IfSome told (λ objects. (own : List ℕ) → IsUuid own → Lists own objects names
-      → IsStoredCheckpoint (expected_of own geometry) objects base × IsNewest (expected_of own geometry) objects base.number)
+      → IsStoredCheckpoint (expected_of own geometry ancestors) objects base
+      × IsNewest (expected_of own geometry ancestors) objects base.number)
       → IfSome told (λ objects. Lists uuid objects names → IsBegun volume objects base)
   told_begun base read =
       told_so (λ objects. (own : List ℕ) → IsUuid own → Lists own objects names
-      → IsStoredCheckpoint (expected_of own geometry) objects base × IsNewest (expected_of own geometry) objects base.number)
+      → IsStoredCheckpoint (expected_of own geometry ancestors) objects base
+      × IsNewest (expected_of own geometry ancestors) objects base.number)
       (λ objects. Lists uuid objects names → IsBegun volume objects base) told
       (λ objects so listed. let is = so uuid is_uuid listed in record {
         newest = record {
@@ -98,18 +104,18 @@ module _ (told : Option Objects) (uuid : List ℕ) (is_uuid : IsUuid uuid) (geom
 
   -- or there is none
   pub told_no_checkpoint : IfSome told (λ objects. (own : List ℕ) (number : ℕ) → IsUuid own → Lists own objects names
-      → IsNoCheckpoint (expected_of own geometry) objects number)
+      → IsNoCheckpoint (expected_of own geometry ancestors) objects number)
       → IfSome told (λ objects. Lists uuid objects names → IsWhyNotChecked volume objects errors.NoCheckpoint)
   told_no_checkpoint =
       told_so (λ objects. (own : List ℕ) (number : ℕ) → IsUuid own → Lists own objects names
-      → IsNoCheckpoint (expected_of own geometry) objects number)
+      → IsNoCheckpoint (expected_of own geometry ancestors) objects number)
       (λ objects. Lists uuid objects names → IsWhyNotChecked volume objects errors.NoCheckpoint) told
       (λ objects none listed number. none uuid number is_uuid listed)
 
   pub told_unbegun : (error : RecoverError) → (error ≡ errors.NoCheckpoint) ⊎ IsNoAnswer error
       → (error ≡ errors.NoCheckpoint
       → IfSome told (λ objects. (own : List ℕ) (number : ℕ) → IsUuid own → Lists own objects names
-      → IsNoCheckpoint (expected_of own geometry) objects number))
+      → IsNoCheckpoint (expected_of own geometry ancestors) objects number))
       → IfSome told (λ objects. Lists uuid objects names → IsWhyNotChecked volume objects error)
   told_unbegun error (inl is) none =
       subst (λ e. IfSome told (λ objects. Lists uuid objects names → IsWhyNotChecked volume objects e)) (sym is)
@@ -148,26 +154,28 @@ module _ (told : Option Objects) (uuid : List ℕ) (is_uuid : IsUuid uuid) (geom
 
 -- ---- the report
 
-pub told_report : (told : Option Objects) (uuid : List ℕ) (is_uuid : IsUuid uuid) (geometry : Geometry) (names : List ObjName)
-    (base : ReadCheckpoint) (report : CheckReport) (named : BTreeSet ℕ) (numbers : List ℕ)
-    → IfSome told (λ objects. Lists uuid objects names → IsBegun (expected_of uuid geometry) objects base)
+pub told_report : (told : Option Objects) (uuid : List ℕ) (is_uuid : IsUuid uuid) (geometry : Geometry) (ancestors : ℕ)
+    (names : List ObjName) (base : ReadCheckpoint) (report : CheckReport) (named : BTreeSet ObjectOfLevel) (numbers : List ℕ)
+    → IfSome told (λ objects. Lists uuid objects names → IsBegun (expected_of uuid geometry ancestors) objects base)
     → report.uuid ≡ uuid
     → AreHoldsAmong uuid names report.holds.items
     → ((n : ℕ) → Contains numbers n ↔ Contains (object_numbers names) n)
-    → IfSome told (λ objects. JudgesTo (expected_of uuid geometry) objects names
+    → IfSome told (λ objects. JudgesTo (expected_of uuid geometry ancestors) objects names
     (record { number = base.number; end = Some base.end; refused = None }) report.last)
-    → IfSome told (λ objects. NamesAll (expected_of uuid geometry) objects base.number base.bytes report.holds.items named)
+    → IfSome told (λ objects. NamesAll (expected_of uuid geometry ancestors) objects base.number base.bytes report.holds.items
+    named)
     → IfSome told (λ objects. IsFilterOf numbers
-    (λ n. (n ≤ report.last) × HasCheckpointHeader (expected_of uuid geometry) objects n) report.checkpoints.items)
+    (λ n. (n ≤ report.last) × HasCheckpointHeader (expected_of uuid geometry ancestors) objects n) report.checkpoints.items)
     → IsFilterOf numbers (λ n. report.last < n) report.stranded.items
-    → IsFilterOf numbers (λ n. (n < base.number) × (Has named n → ⊥)) report.unneeded.items
-    → (absent : List ℕ) × (report.missing.items ≡ map own_missing absent) × IsStrictlyIncreasing absent
-    × ((n : ℕ) → Contains absent n ↔ (Has named n × (Contains numbers n → ⊥)))
-    → IfSome told (λ objects. Lists uuid objects names → IsReportOf (expected_of uuid geometry) objects report)
-told_report None uuid is_uuid geometry names base report named numbers begun own among same judged all checkpoints stranded
-    unneeded missing = tt
-told_report (Some objects) uuid is_uuid geometry names base report named numbers begun own among same judged all checkpoints
-    stranded unneeded (absent, missing, ascending, gone) = λ listed.
+    → IsFilterOf numbers (λ n. (n < base.number) × (Has named (own_object n) → ⊥)) report.unneeded.items
+    → (chain : List Ancestor)
+    → IfSome told (λ objects. IsPartOf (Has named) (IsAway (IsNoneOf numbers) objects chain) report.missing.items)
+    → IfSome told (λ objects. Lists uuid objects names
+    → IsReportOf (expected_of uuid geometry ancestors) (uuid_in_chain uuid chain) objects report)
+told_report None uuid is_uuid geometry ancestors names base report named numbers begun own among same judged all checkpoints
+    stranded unneeded chain missing = tt
+told_report (Some objects) uuid is_uuid geometry ancestors names base report named numbers begun own among same judged all
+    checkpoints stranded unneeded chain missing = λ listed.
     let is = begun listed in
-    is_report (expected_of uuid geometry) objects names is_uuid listed report base.number base.end is.newest base.bytes is.present
-    among judged named all numbers same own checkpoints stranded unneeded absent missing ascending gone
+    is_report (expected_of uuid geometry ancestors) objects names is_uuid listed report base.number base.end is.newest base.bytes
+    is.present among judged named all numbers same own checkpoints stranded unneeded chain missing

@@ -18,7 +18,9 @@ use Rattle.object_recovery.specs.declared.error.RecoverError.{RecoverError}
 use Rattle.object_recovery.specs.declared.error.RecoverError.TheVariants as errors
 use Rattle.object_recovery.specs.Faults.{IsNoAnswer}
 use Rattle.object_recovery.specs.Holding.{RefusesOrFails}
-use Rattle.vol_check.specs.Steps.{Adds, AddsRows, AddsKept, IsWhyNoRows, RefusesKept}
+use Rattle.vol_check.specs.declared.report.ObjectOfLevel.{ObjectOfLevel}
+use Rattle.vol_check.specs.Report.{own_object}
+use Rattle.vol_check.specs.Steps.{GainsJust, AddsRows, AddsKept, IsWhyNoRows, RefusesKept}
 use Rattle.vol_check.proofs.NamedLemmas.{kept_there, kept_absent}
 
 -- what is so of all objects is so of those that are told
@@ -46,6 +48,7 @@ module _ (bytes : List ℕ) (expected : Expected) (end : ℕ) (rows : List (Exte
   no_rows_given errors.NoCheckpoint why = why
   no_rows_given (errors.BadObject number reason) why = why.1.failed (passes reason)
   no_rows_given (errors.MissingObject number) why = why
+  no_rows_given (errors.BaseMissing uuid) why = why
   no_rows_given errors.StoreFault why = tt
   no_rows_given errors.OutOfMemory why = tt
 
@@ -54,7 +57,7 @@ module _ (bytes : List ℕ) (expected : Expected) (end : ℕ) (rows : List (Exte
 module _ (volume : Expected) (number : ℕ) (told : Option Objects) where
   -- it is there
   module _ (bytes : List ℕ) (present : IfSome told (λ objects. found objects (object_name volume number) ≡ Some bytes)) where
-    pub told_kept : (old middle new : BTreeSet ℕ) → Adds (λ n. n ≡ number) old middle
+    pub told_kept : (old middle new : BTreeSet ObjectOfLevel) → GainsJust (λ n. n ≡ own_object number) old middle
         → AddsRows bytes (expected_alone volume number) middle new
         → IfSome told (λ objects. AddsKept volume objects number old new)
     told_kept old middle new first rows =
@@ -70,6 +73,7 @@ module _ (volume : Expected) (number : ℕ) (told : Option Objects) where
         (λ objects. RefusesKept volume objects number (errors.BadObject other reason)) told
         (λ objects there. inr (reason, ap (λ n. errors.BadObject n reason) why.0, (bytes, there, why.1))) present
     told_bad (errors.MissingObject other) why = absurd why
+    told_bad (errors.BaseMissing uuid) why = absurd why
     told_bad errors.StoreFault why = absurd why
     told_bad errors.OutOfMemory why =
         told_all (λ objects. RefusesKept volume objects number errors.OutOfMemory) told (λ objects. inl tt)
@@ -81,7 +85,7 @@ module _ (volume : Expected) (number : ℕ) (told : Option Objects) where
   absent_so objects other (inl none) = absurd none
   absent_so objects other (inr refuses) = refuses.why.1
 
-  pub told_absent : (other : ℕ) (old middle : BTreeSet ℕ) → Adds (λ n. n ≡ number) old middle
+  pub told_absent : (other : ℕ) (old middle : BTreeSet ObjectOfLevel) → GainsJust (λ n. n ≡ own_object number) old middle
       → IfSome told (λ objects. RefusesOrFails (expected_alone volume number) objects number (errors.MissingObject other))
       → IfSome told (λ objects. AddsKept volume objects number old middle)
   told_absent other old middle first refused =

@@ -1,4 +1,5 @@
 pub mod FilterLemmas
+pub mod PartLemmas
 pub mod SetLemmas
 pub mod RowLemmas
 pub mod NamedLemmas

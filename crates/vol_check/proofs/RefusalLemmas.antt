@@ -29,6 +29,7 @@ pub no_answer_why : (volume : Expected) (objects : Objects) (error : RecoverErro
 no_answer_why volume objects errors.NoCheckpoint none = absurd none
 no_answer_why volume objects (errors.BadObject number reason) none = absurd none
 no_answer_why volume objects (errors.MissingObject number) none = none
+no_answer_why volume objects (errors.BaseMissing uuid) none = none
 no_answer_why volume objects errors.StoreFault none = tt
 no_answer_why volume objects errors.OutOfMemory none = tt
 

@@ -1,19 +1,21 @@
 -- What the lists of a report are, by the numbers of the names and those that are named.
-use Rattle.std.proofs.Common.{◌≡◌, ℕ, ◌^◌, ◌<◌, ◌≤◌, inl, inr, Some, None, List, refl, subst}
-use Rattle.std.proofs.Common.{map, arith}
+use Rattle.std.proofs.Common.{◌≡◌, ℕ, ◌^◌, ◌<◌, ◌≤◌, inl, inr, Some, None, List, refl, ◌∙◌, ap, subst, arith}
 use Rattle.std.specs.Prelude.{◌⊎◌, ◌↔◌}
 use Rattle.std.specs.BTreeSet.{BTreeSet}
 use Rattle.std.specs.List.{Contains}
-use Rattle.std.specs.List.Sorted.{IsStrictlyIncreasing}
 use Rattle.std.proofs.lemmas.Bool.{cases_order}
+use Rattle.std.proofs.lemmas.Bool.Decides.{nat_tests}
 use Rattle.std.proofs.lemmas.List.Elements.{All-contains}
+use Rattle.clone_chain.specs.declared.ancestor.Ancestor.{Ancestor}
 use Rattle.lsvd_names.specs.Names.{hold_name}
 use Rattle.lsvd_names.specs.Spelling.{IsUuid}
 use Rattle.lsvd_names.specs.declared.name.ObjName.{ObjName}
 use Rattle.lsvd_objstore.specs.Objects.{Objects, found, Lists}
 use Rattle.object_format.specs.declared.expected.Expected.{Expected}
 use Rattle.object_stream.specs.Replay.{object_name}
-use Rattle.stopped_volume.specs.Holds.{IsHeld, IsKept, IsMappedBy}
+use Rattle.object_stream.specs.Stream.{Owners, is_own}
+use Rattle.stopped_volume.specs.Ancestors.{uuid_in_chain}
+use Rattle.stopped_volume.specs.Holds.{IsHeld, IsKept, IsKeptBy, IsMappedBy}
 use Rattle.stopped_volume.specs.Needed.{IsNeeded}
 use Rattle.stopped_volume.specs.Opening.{owned_by}
 use Rattle.super_recovery.specs.Holds.{AreHoldsAmong}
@@ -22,10 +24,13 @@ use Rattle.object_recovery.specs.Judging.{AreGood, IsRun}
 use Rattle.object_recovery.proofs.OutcomeLemmas.{at_base}
 use Rattle.object_recovery.proofs.HoldingLemmas.{is_stored}
 use Rattle.vol_check.specs.declared.report.CheckReport.{CheckReport}
-use Rattle.vol_check.specs.Report.{AreJust, IsThere, HasCheckpointHeader, IsReportOf, own_missing}
-use Rattle.vol_check.specs.Steps.{Has, IsFilterOf, IsWholeIfThere, NamesAll, JudgesTo, object_numbers}
+use Rattle.vol_check.specs.declared.report.ObjectOfLevel.{ObjectOfLevel}
+use Rattle.vol_check.specs.Report.{AreJust, IsThere, HasCheckpointHeader, IsReportOf, own_object}
+use Rattle.vol_check.specs.Steps.{Has, IsAway, IsFilterOf, IsNoneOf, IsPartOf, IsWholeIfThere, JudgesTo, KeepsObject, MapsObject}
+use Rattle.vol_check.specs.Steps.{NamesAll, object_numbers}
 use Rattle.vol_check.proofs.NumberLemmas.{are_there}
 use Rattle.vol_check.proofs.MissingLemmas.{are_missing}
+use Rattle.vol_check.proofs.SourceLemmas.{owner_is}
 
 -- ---- how far the objects go
 
@@ -46,6 +51,15 @@ run_to volume objects names base base_end last newest listed (gap, goes, past, i
       subst (IsRun volume objects base) is run,
       subst (λ n. AreGood volume objects n (λ number. base < number)) is (past base listed there),
     )
+
+-- ---- the volume's own objects
+
+-- owners map a sector to the volume's own object of a number
+maps_own : (owned : Owners) (n : ℕ) → IsMappedBy owned n → MapsObject owned (own_object n)
+maps_own owned n (k, is) = (k, owner_is n (owned k) is)
+
+own_mapped : (owned : Owners) (n : ℕ) → MapsObject owned (own_object n) → IsMappedBy owned n
+own_mapped owned n (k, is) = (k, ap (is_own n) is ∙ grind (arith, nat_tests))
 
 -- ---- the lists
 
@@ -92,21 +106,31 @@ module _ (volume : Expected) (objects : Objects) (names : List ObjName) (is_uuid
     }
 
     module _ (base last : ℕ) (from : base ≤ last) (bytes : List ℕ) (holds : List ℕ)
-        (among : AreHoldsAmong volume.uuid names holds) (named : BTreeSet ℕ)
+        (among : AreHoldsAmong volume.uuid names holds) (named : BTreeSet ObjectOfLevel)
         (all : NamesAll volume objects base bytes holds named) where
-      needed_named : (n : ℕ) → IsMappedBy (owned_by all.rows) n ⊎ IsKept volume objects n → Has named n
-      needed_named n (inl mapped) = (all.same n).1 (inl mapped)
-      needed_named n (inr (checkpoint, held, keeps)) =
-          (all.same n).1 (inr (checkpoint, of_held holds among checkpoint held, keeps))
+      keeps_own : (checkpoint n : ℕ) → IsKeptBy volume objects checkpoint n
+          → KeepsObject volume objects checkpoint (own_object n)
+      keeps_own checkpoint n (inl same) = inl (ap own_object same)
+      keeps_own checkpoint n (inr (end, owned, of, mapped)) = inr (end, owned, of, maps_own owned n mapped)
 
-      named_needed : (n : ℕ) → Has named n → IsNeeded volume objects base (owned_by all.rows) n
+      own_kept : (checkpoint n : ℕ) → KeepsObject volume objects checkpoint (own_object n)
+          → IsKeptBy volume objects checkpoint n
+      own_kept checkpoint n (inl same) = inl (ap (λ (o : ObjectOfLevel). o.number) same)
+      own_kept checkpoint n (inr (end, owned, of, maps)) = inr (end, owned, of, own_mapped owned n maps)
+
+      needed_named : (n : ℕ) → IsMappedBy (owned_by all.rows) n ⊎ IsKept volume objects n → Has named (own_object n)
+      needed_named n (inl mapped) = (all.same (own_object n)).1 (inl (maps_own (owned_by all.rows) n mapped))
+      needed_named n (inr (checkpoint, held, keeps)) =
+          (all.same (own_object n)).1 (inr (checkpoint, of_held holds among checkpoint held, keeps_own checkpoint n keeps))
+
+      named_needed : (n : ℕ) → Has named (own_object n) → IsNeeded volume objects base (owned_by all.rows) n
       named_needed n has =
-          elim ((all.same n).0 has) [
-            | inl mapped ↦ inr (inl mapped)
-            | inr kept ↦ inr (inr (kept.0, held_of holds among kept.0 kept.1, kept.2))
+          elim ((all.same (own_object n)).0 has) [
+            | inl maps ↦ inr (inl (own_mapped (owned_by all.rows) n maps))
+            | inr kept ↦ inr (inr (kept.0, held_of holds among kept.0 kept.1, own_kept kept.0 n kept.2))
           ]
 
-      not_needed : (n : ℕ) → n < base → (Has named n → ⊥) → IsNeeded volume objects base (owned_by all.rows) n → ⊥
+      not_needed : (n : ℕ) → n < base → (Has named (own_object n) → ⊥) → IsNeeded volume objects base (owned_by all.rows) n → ⊥
       not_needed n low none (inl high) = omega (arith, low, high)
       not_needed n low none (inr needed) = none (needed_named n needed)
 
@@ -118,7 +142,7 @@ module _ (volume : Expected) (objects : Objects) (names : List ObjName) (is_uuid
             | inr (inr high) ↦ absurd (none (inl (omega (arith, high))))
           ]
 
-      pub are_unneeded : (list : List ℕ) → IsFilterOf numbers (λ n. (n < base) × (Has named n → ⊥)) list
+      pub are_unneeded : (list : List ℕ) → IsFilterOf numbers (λ n. (n < base) × (Has named (own_object n) → ⊥)) list
           → AreJust (λ n. (n ≤ last) × IsThere volume objects n
           × (IsNeeded volume objects base (owned_by all.rows) n → ⊥)) list
       are_unneeded list is = record {
@@ -142,7 +166,7 @@ module _ (volume : Expected) (objects : Objects) (names : List ObjName) (is_uuid
     (present : found objects (object_name volume base) ≡ Some bytes)
     (among : AreHoldsAmong volume.uuid names report.holds.items)
     (judged : JudgesTo volume objects names (record { number = base; end = Some base_end; refused = None }) report.last)
-    (named : BTreeSet ℕ) (all : NamesAll volume objects base bytes report.holds.items named) (numbers : List ℕ)
+    (named : BTreeSet ObjectOfLevel) (all : NamesAll volume objects base bytes report.holds.items named) (numbers : List ℕ)
     (same : (n : ℕ) → Contains numbers n ↔ Contains (object_numbers names) n) where
   abbrev run : IsRun volume objects base report.last
       × AreGood volume objects report.last (λ number. base < number)
@@ -160,11 +184,10 @@ module _ (volume : Expected) (objects : Objects) (names : List ObjName) (is_uuid
   pub is_report : report.uuid ≡ volume.uuid
       → IsFilterOf numbers (λ n. (n ≤ report.last) × HasCheckpointHeader volume objects n) report.checkpoints.items
       → IsFilterOf numbers (λ n. report.last < n) report.stranded.items
-      → IsFilterOf numbers (λ n. (n < base) × (Has named n → ⊥)) report.unneeded.items
-      → (absent : List ℕ) → report.missing.items ≡ map own_missing absent → IsStrictlyIncreasing absent
-      → ((n : ℕ) → Contains absent n ↔ (Has named n × (Contains numbers n → ⊥)))
-      → IsReportOf volume objects report
-  is_report volume_is checkpoints stranded unneeded absent missing ascending gone = record {
+      → IsFilterOf numbers (λ n. (n < base) × (Has named (own_object n) → ⊥)) report.unneeded.items
+      → (chain : List Ancestor) → IsPartOf (Has named) (IsAway (IsNoneOf numbers) objects chain) report.missing.items
+      → IsReportOf volume (uuid_in_chain volume.uuid chain) objects report
+  is_report volume_is checkpoints stranded unneeded chain missing = record {
     volume_is = volume_is;
     base = base;
     end = all.end;
@@ -182,7 +205,6 @@ module _ (volume : Expected) (objects : Objects) (names : List ObjName) (is_uuid
         are_unneeded volume objects names is_uuid listed numbers there base report.last run.0.from bytes
         report.holds.items among named all report.unneeded.items unneeded;
     missing =
-        rw missing
-        (are_missing volume objects base report.last bytes report.holds.items named all held run.0.landed numbers there
-        absent ascending gone);
+        are_missing volume objects base report.last bytes report.holds.items named all held run.0.landed numbers there chain
+        report.missing.items missing;
   }

@@ -1,6 +1,7 @@
 -- Contract: what errors of calls below are here, and which outcomes are faults of the store.
 use Rattle.std.specs.Prelude.{Bool, true, false, Result, Ok, Err}
 use Rattle.refusals.specs.declared.refusal.Refusal.TheVariants.{NoVolume, BadSuper, NoCheckpoint, BadObject, MissingObject}
+use Rattle.refusals.specs.declared.refusal.Refusal.TheVariants.{BaseMissing}
 use Rattle.super_recovery.specs.declared.error.SuperError.{SuperError}
 use Rattle.super_recovery.specs.declared.error.SuperError.TheVariants as supers
 use Rattle.object_recovery.specs.declared.error.RecoverError.{RecoverError}
@@ -18,6 +19,7 @@ abbrev pub of_recovery : RecoverError → CheckError
 of_recovery recovery.NoCheckpoint = Refused NoCheckpoint
 of_recovery (recovery.BadObject number reason) = Refused (BadObject number reason)
 of_recovery (recovery.MissingObject number) = Refused (MissingObject number)
+of_recovery (recovery.BaseMissing uuid) = Refused (BaseMissing uuid)
 of_recovery recovery.StoreFault = StoreFault
 of_recovery recovery.OutOfMemory = OutOfMemory
 

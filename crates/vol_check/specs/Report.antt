@@ -1,5 +1,5 @@
 -- Contract: what a check reports of a volume: lists, each of them a filter over the names and headers that the store has of it.
-use Rattle.std.specs.Prelude.{◌≡◌, ℕ, zero, suc, ◌-◌, ◌^◌, ◌<◌, ◌≤◌, ◌⊎◌, ◌↔◌, true, Option, Some, None, IsTrue, List, []}
+use Rattle.std.specs.Prelude.{◌≡◌, ℕ, ◌-◌, ◌^◌, ◌<◌, ◌≤◌, ◌⊎◌, ◌↔◌, true, Option, Some, None, IsTrue, List}
 use Rattle.std.specs.Prelude.{length}
 use Rattle.std.specs.List.{AllPairs, Contains}
 use Rattle.std.specs.List.Sorted.{IsStrictlyIncreasing}
@@ -18,6 +18,7 @@ use Rattle.object_stream.specs.Stream.{Owners, is_own}
 use Rattle.object_stream.specs.Replay.{object_name, source_at, expected_at, HasParts, Replays}
 use Rattle.super_format.specs.declared.super_object.Super.{Super}
 use Rattle.super_format.specs.Super.{geometry_with}
+use Rattle.stopped_volume.specs.Ancestors.{uuid_in_chain}
 use Rattle.stopped_volume.specs.Expected.{expected_alone}
 use Rattle.stopped_volume.specs.Holds.{IsHeld, HasCheckpoint}
 use Rattle.stopped_volume.specs.Needed.{IsNeeded}
@@ -31,10 +32,10 @@ use Rattle.object_recovery.specs.declared.error.RecoverError.TheVariants as erro
 use Rattle.object_recovery.specs.Checkpoints.{expected_of, IsNoCheckpoint}
 use Rattle.object_recovery.specs.Judging.{AreGood, IsRun}
 use Rattle.object_recovery.specs.Recovery.{AreAllGood, IsBadThere}
-use Rattle.refusals.specs.declared.refusal.Refusal.TheVariants.{NoVolume, BadSuper, HasAncestors, NoCheckpoint, BadObject}
+use Rattle.refusals.specs.declared.refusal.Refusal.TheVariants.{NoVolume, BadSuper, NoCheckpoint, BadObject}
 use Rattle.vol_check.specs.declared.error.CheckError.{CheckError}
 use Rattle.vol_check.specs.declared.error.CheckError.TheVariants.{Refused, StoreFault, OutOfMemory}
-use Rattle.vol_check.specs.declared.report.Missing.{Missing}
+use Rattle.vol_check.specs.declared.report.ObjectOfLevel.{ObjectOfLevel}
 use Rattle.vol_check.specs.declared.report.CheckReport.{CheckReport}
 
 -- ---- lists of numbers
@@ -57,11 +58,6 @@ pub record HasCheckpointHeader (volume : Expected) (objects : Objects) (number :
   pub kind : header.kind ≡ kinds.Checkpoint
 
 -- ---- what is missing
-
--- The uuids of a volume's levels, where it has no ancestors: level 0 is the volume itself.
-abbrev pub alone_at : (uuid : List ℕ) → (level : ℕ) → Option (List ℕ)
-alone_at uuid zero = Some uuid
-alone_at uuid (suc level) = None
 
 -- rows of a copy name this source of the sector k
 abbrev pub NamesSource : Rows → (k source : ℕ) → Type 0
@@ -110,27 +106,28 @@ abbrev pub IsAbsent : Objects → (uuid_at : ℕ → Option (List ℕ)) → (lev
 IsAbsent objects uuid_at level number =
     (uuid : List ℕ) × (uuid_at level ≡ Some uuid) × (found objects (numbered_name uuid number) ≡ None)
 
--- the object of a level in a report
-abbrev pub missing_at : (level number : ℕ) → Missing
-missing_at level number = record { level = level; number = number }
+-- the object of a level, and one of the volume's own
+abbrev pub object_at : (level number : ℕ) → ObjectOfLevel
+object_at level number = record { level = level; number = number }
 
-abbrev pub own_missing : (number : ℕ) → Missing
-own_missing number = missing_at 0 number
+abbrev pub own_object : (number : ℕ) → ObjectOfLevel
+own_object number = object_at 0 number
 
 -- by level first, then by number
-abbrev pub IsBefore : Missing → Missing → Type 0
-IsBefore first second = (first.level < second.level) ⊎ ((first.level ≡ second.level) × (first.number < second.number))
+abbrev pub ComesBefore : ObjectOfLevel → ObjectOfLevel → Type 0
+ComesBefore first second = (first.level < second.level) ⊎ ((first.level ≡ second.level) × (first.number < second.number))
 
 -- they are just those that a name may have and of which this holds, each once, ascending
-pub record AreJustMissing (Such : (level number : ℕ) → Type 0) (list : List Missing) : Type 0 where
-  pub ascending : AllPairs IsBefore list
-  pub same : (level number : ℕ) → number < 2 ^ 64 → Contains list (missing_at level number) ↔ Such level number
+pub record AreJustMissing (Such : (level number : ℕ) → Type 0) (list : List ObjectOfLevel) : Type 0 where
+  pub ascending : AllPairs ComesBefore list
+  pub same : (level number : ℕ) → number < 2 ^ 64 → Contains list (object_at level number) ↔ Such level number
 
 -- ---- the report
 
--- The report of the objects that a store has of a volume without ancestors. The newest checkpoint and the last object before the
--- first missing one are those of a mount, and the objects past that checkpoint are good.
-pub record IsReportOf (volume : Expected) (objects : Objects) (report : CheckReport) : Type 0 where
+-- The report of the objects that a store has of a volume, by the uuids of its levels. The newest checkpoint and the last object
+-- before the first missing one are those of a mount, and the objects past that checkpoint are good.
+pub record IsReportOf (volume : Expected) (uuid_at : ℕ → Option (List ℕ)) (objects : Objects) (report : CheckReport) :
+    Type 0 where
   pub volume_is : report.uuid ≡ volume.uuid
   pub base : ℕ
   pub end : ℕ
@@ -146,17 +143,16 @@ pub record IsReportOf (volume : Expected) (objects : Objects) (report : CheckRep
   pub unneeded : AreJust (λ number. (number ≤ report.last) × IsThere volume objects number
       × (IsNeeded volume objects base owned number → ⊥)) report.unneeded.items
   pub missing : AreJustMissing (λ level number. IsNamed volume objects base end owned report.last level number
-      × IsAbsent objects (alone_at volume.uuid) level number) report.missing.items
+      × IsAbsent objects uuid_at level number) report.missing.items
 
 -- the volume that a super object says, but for the numbers and ends of its objects
 abbrev pub volume_said : (uuid : List ℕ) → Super → Expected
-volume_said uuid said = expected_of uuid (geometry_with said 0)
+volume_said uuid said = expected_of uuid (geometry_with said 0) (length said.chain)
 
 pub record IsReport (uuid : List ℕ) (objects : Objects) (report : CheckReport) : Type 0 where
   pub said : Super
   pub says : HasSuper uuid said objects
-  pub alone : said.chain ≡ []
-  pub is : IsReportOf (volume_said uuid said) objects report
+  pub is : IsReportOf (volume_said uuid said) (uuid_in_chain uuid said.chain) objects report
 
 -- ---- refusals
 
@@ -181,19 +177,18 @@ IsWhyNotChecked volume objects errors.NoCheckpoint = (number : ℕ) → IsNoChec
 IsWhyNotChecked volume objects (errors.BadObject number reason) =
     IsBadThere volume objects number reason ⊎ IsBadHeld volume objects number reason
 IsWhyNotChecked volume objects (errors.MissingObject number) = ⊥
+IsWhyNotChecked volume objects (errors.BaseMissing uuid) = ⊥
 IsWhyNotChecked volume objects errors.StoreFault = Unit {0}
 IsWhyNotChecked volume objects errors.OutOfMemory = Unit {0}
 
 abbrev pub AreObjectsRefused : (uuid : List ℕ) → Objects → RecoverError → Type 0
 AreObjectsRefused uuid objects error =
-    (said : Super) × HasSuper uuid said objects × (said.chain ≡ []) × IsWhyNotChecked (volume_said uuid said) objects error
+    (said : Super) × HasSuper uuid said objects × IsWhyNotChecked (volume_said uuid said) objects error
 
 -- why a volume is not checked
 abbrev pub IsCheckRefused : (uuid : List ℕ) → Objects → CheckError → Type 0
 IsCheckRefused uuid objects (Refused NoVolume) = IsVolumeRefused uuid objects supers.NoVolume
 IsCheckRefused uuid objects (Refused (BadSuper reason)) = IsVolumeRefused uuid objects (supers.BadSuper reason)
-IsCheckRefused uuid objects (Refused (HasAncestors count)) =
-    (said : Super) × HasSuper uuid said objects × (said.chain ≡ [] → ⊥) × (count ≡ length said.chain)
 IsCheckRefused uuid objects (Refused NoCheckpoint) = AreObjectsRefused uuid objects errors.NoCheckpoint
 IsCheckRefused uuid objects (Refused (BadObject number reason)) =
     AreObjectsRefused uuid objects (errors.BadObject number reason)

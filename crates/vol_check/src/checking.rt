@@ -1,7 +1,8 @@
-ghost use Rattle.std.specs.Prelude.{◌≡◌, IfOk, IfErr, IfSome};
+ghost use Rattle.std.specs.Prelude.{◌≡◌, length, IfOk, IfErr, IfSome};
 ghost use Rattle.lsvd_fault.specs.Faults.{Counts};
 ghost use Rattle.lsvd_objstore.specs.Objects.{AreNamesOf, Lists};
 ghost use Rattle.lsvd_objstore.specs.Store.{StoreState, OnlyCounts};
+ghost use Rattle.stopped_volume.specs.Ancestors.{uuid_in_chain};
 ghost use Rattle.stopped_volume.specs.Store.{TellsBytes};
 ghost use Rattle.super_recovery.specs.Holds.{AreHoldsAmong};
 ghost use Rattle.object_recovery.specs.Checkpoints.{expected_of};
@@ -12,8 +13,9 @@ ghost use Rattle.vol_check.specs.Steps.{JudgesTo, RefusesPast};
 
 use crate::error::CheckError;
 use crate::lists::{checkpoints_among, missing_of, numbers_past, unnamed_below};
-use crate::naming::{named_numbers, object_numbers};
+use crate::naming::{named_objects, object_numbers};
 use crate::report::CheckReport;
+use clone_chain::Chain;
 use lsvd_base::Geometry;
 use lsvd_names::{ObjName, a_uuid_has_sixteen_bytes};
 use lsvd_objstore::{Receipt, Store};
@@ -21,7 +23,6 @@ use object_format::Expected;
 use object_recovery::{
     Reached, RecoverError, expected_alone, judge_past, judge_to_gap, newest_checkpoint,
 };
-use refusals::Refusal;
 use std::alloc::Global;
 use super_recovery::{FoundVolume, find_volume};
 use uuid::Uuid;
@@ -29,7 +30,8 @@ use uuid::Uuid;
 /// Checks the volume with this uuid in a store: lists its holds and its checkpoints, and which of its objects
 /// are stranded, unneeded or missing. The store is only read: it is listed once; the super object, the newest
 /// epoch and the holds are read, of each object from the newest checkpoint on the header and the rows, of
-/// each other one the header, and the checkpoints of holds. No payload is read.
+/// each other one the header, and the checkpoints of holds. No payload is read. Each object of an ancestor
+/// that is named is searched for by its name.
 ///
 /// The report is exact where the store stays as it is meanwhile. Of a store that is served meanwhile it tells
 /// what was there as it was read, so that an object which is removed between may be told as missing.
@@ -37,7 +39,6 @@ use uuid::Uuid;
 /// An error comes where, in the order of the tests:
 ///
 /// - `NoVolume`, `BadSuper`: the volume as a whole is refused.
-/// - `HasAncestors`: the volume is a clone. Clones are not checked yet.
 /// - `NoCheckpoint`: no object of the volume is a checkpoint.
 /// - `BadObject`: an object past the newest checkpoint is bad. That of the greatest number is told, with the
 ///   first reason for it. Up to the first missing number an object is to go on at the end of the one before
@@ -62,22 +63,28 @@ pub fn check<S: Store>(alloc: Global, store: &mut S, uuid: Uuid) -> Result<Check
         holds,
         names,
     } = find_volume(alloc, store, uuid)?;
-    let count = volume.chain.count();
-    if 0 < count {
-        return Err(CheckError::Refused(Refusal::HasAncestors { count }));
-    }
     let geometry = volume.geometry(0);
-    let report = check_objects(alloc, store, uuid, &geometry, names.as_slice(), holds)?;
+    let chain = &volume.chain;
+    let report = check_objects(
+        alloc,
+        store,
+        uuid,
+        &geometry,
+        chain,
+        names.as_slice(),
+        holds,
+    )?;
     Ok(report)
 }
 
-// Checks the objects of a volume without ancestors, with the names of all its objects and the numbers of its
-// holds, ascending (conditions).
+// Checks the objects of a volume with these ancestors, with the names of all its own objects and the numbers
+// of its holds, ascending (conditions).
 fn check_objects<S: Store>(
     alloc: Global,
     store: &mut S,
     uuid: Uuid,
     geometry: &Geometry,
+    chain: &Chain,
     names: &[ObjName],
     holds: Vec<u64>,
 ) -> Result<CheckReport, RecoverError>
@@ -85,24 +92,26 @@ fn check_objects<S: Store>(
     requires holds { AreHoldsAmong uuid names.now holds.items }
     ensures report { TellsBytes S.Receipt.state
         → IfOk result (λ report. IfSome (S.state store.old).objects (λ objects. Lists uuid objects names.now
-        → IsReportOf (expected_of uuid geometry.now) objects report)) }
+        → IsReportOf (expected_of uuid geometry.now (length chain.now)) (uuid_in_chain uuid chain.now)
+        objects report)) }
     ensures refused { TellsBytes S.Receipt.state
         → IfErr result (λ error. IfSome (S.state store.old).objects (λ objects. Lists uuid objects names.now
-        → IsWhyNotChecked (expected_of uuid geometry.now) objects error)) }
+        → IsWhyNotChecked (expected_of uuid geometry.now (length chain.now)) objects error)) }
     ensures unchanged { OnlyCounts (S.state store.old) (S.state store.new) }
     ensures faults { Counts (ends_by_fault_below result) (S.state store.old).faults
         (S.state store.new).faults }
 {
     a_uuid_has_sixteen_bytes(uuid);
-    let base = newest_checkpoint(alloc, store, geometry, names)?;
-    let volume = expected_alone(uuid, geometry, 0);
+    let ancestors = chain.count();
+    let base = newest_checkpoint(alloc, store, geometry, ancestors, names)?;
+    let volume = expected_alone(uuid, geometry, ancestors, 0);
     let reached = Reached {
         number: base.number,
         end: Some(base.end),
         refused: None,
     };
     let last = last_number(alloc, store, &volume, names, reached)?;
-    let named = named_numbers(
+    let named = named_objects(
         alloc,
         store,
         &volume,
@@ -113,6 +122,7 @@ fn check_objects<S: Store>(
     let numbers = object_numbers(alloc, names)?;
     let numbers = numbers.as_slice();
     let checkpoints = checkpoints_among(alloc, store, &volume, numbers, last)?;
+    let missing = missing_of(alloc, store, chain, &named, numbers)?;
     Ok(CheckReport {
         uuid,
         holds,
@@ -120,7 +130,7 @@ fn check_objects<S: Store>(
         last,
         stranded: numbers_past(alloc, numbers, last)?,
         unneeded: unnamed_below(alloc, numbers, &named, base.number)?,
-        missing: missing_of(alloc, &named, numbers)?,
+        missing,
     })
 }
 

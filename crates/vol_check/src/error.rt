@@ -45,6 +45,9 @@ impl From<RecoverError> for CheckError {
             RecoverError::MissingObject { number } => {
                 CheckError::Refused(Refusal::MissingObject { number })
             }
+            RecoverError::BaseMissing { uuid } => {
+                CheckError::Refused(Refusal::BaseMissing { ancestor: uuid })
+            }
             RecoverError::StoreFault => CheckError::StoreFault,
             RecoverError::OutOfMemory => CheckError::OutOfMemory,
         }

@@ -10,10 +10,10 @@ ghost use Rattle.ckpt_format.specs.Reading.{IsCheckpointRefusedAs};
 ghost use Rattle.stopped_volume.specs.Expected.{expected_alone};
 ghost use Rattle.stopped_volume.specs.Store.{TellsBytes};
 ghost use Rattle.object_recovery.specs.Faults.{ends_by_fault};
-ghost use Rattle.object_recovery.specs.Holding.{own_numbers};
-ghost use Rattle.vol_check.specs.Steps.{object_number, object_numbers, Adds, AddsRows, AddsKept, NamesAll};
-ghost use Rattle.vol_check.specs.Steps.{IsWhyNoRows, RefusesKept, RefusesNamed};
+ghost use Rattle.vol_check.specs.Steps.{object_number, object_numbers, object_of, GainsJust, AddsRows};
+ghost use Rattle.vol_check.specs.Steps.{AddsKept, NamesAll, IsWhyNoRows, RefusesKept, RefusesNamed};
 
+use crate::report::ObjectOfLevel;
 use ckpt_format::{StoredPlace, read_checkpoint};
 use lsvd_names::{NameKind, ObjName};
 use lsvd_objstore::{Receipt, Store};
@@ -51,19 +51,19 @@ fn object_number(name: &ObjName) -> Option<u64>
     }
 }
 
-/// The numbers of a volume's own objects that its newest checkpoint maps, which has this number and these
-/// bytes (a condition), and of those that holds on these numbers name or keep. A checkpoint that a hold names
-/// may be absent: then its own number alone is named. The errors are `BadObject`, for the first of these
+/// The objects, of a volume and of its ancestors, that the newest checkpoint maps, which has this number and
+/// these bytes (a condition), and those that holds on these numbers name or keep. A checkpoint that a hold
+/// names may be absent: then it alone is named. The errors are `BadObject`, for the first of these
 /// checkpoints that is none of the grammar, `StoreFault`, where a call of the store failed, which the store
 /// counted, and `OutOfMemory`.
-pub(crate) fn named_numbers<S: Store>(
+pub(crate) fn named_objects<S: Store>(
     alloc: Global,
     store: &mut S,
     volume: &Expected,
     base: u64,
     bytes: &[u8],
     holds: &[u64],
-) -> Result<BTreeSet<u64>, RecoverError>
+) -> Result<BTreeSet<ObjectOfLevel>, RecoverError>
     requires { (end : ℕ) × (rows : List (ExtentOf Place))
         × IsCheckpoint bytes.now (expected_alone volume.now base) end rows }
     ensures named { TellsBytes S.Receipt.state
@@ -92,7 +92,7 @@ pub(crate) fn named_numbers<S: Store>(
 fn add_kept<S: Store>(
     alloc: Global,
     store: &mut S,
-    named: &mut BTreeSet<u64>,
+    named: &mut BTreeSet<ObjectOfLevel>,
     volume: &Expected,
     number: u64,
 ) -> Result<(), RecoverError>
@@ -110,7 +110,7 @@ fn add_kept<S: Store>(
         end_before: None,
         ..*volume
     };
-    add(named, number)?;
+    add(named, ObjectOfLevel { level: 0, number })?;
     match read_held(alloc, store, &expected) {
         Ok(bytes) => add_rows(named, bytes.as_slice(), &expected),
         Err(RecoverError::MissingObject { .. }) => Ok(()),
@@ -118,10 +118,10 @@ fn add_kept<S: Store>(
     }
 }
 
-// Adds the numbers of the volume's own objects that the rows of the expected checkpoint name. `BadObject`
-// comes with the reason for which the bytes are none.
+// Adds the objects that the rows of the expected checkpoint name. `BadObject` comes with the reason for which
+// the bytes are none.
 fn add_rows(
-    named: &mut BTreeSet<u64>,
+    named: &mut BTreeSet<ObjectOfLevel>,
     bytes: &[u8],
     expected: &Expected,
 ) -> Result<(), RecoverError>
@@ -141,21 +141,22 @@ fn add_rows(
     }
 }
 
-// Adds the number of a place's object, where it is the volume's own.
-fn add_place(named: &mut BTreeSet<u64>, place: &StoredPlace) -> Result<(), AllocError>
-    ensures { OnOk result (Adds (Contains (own_numbers place.now)) named.old named.new) }
+// Adds the object of a place.
+fn add_place(named: &mut BTreeSet<ObjectOfLevel>, place: &StoredPlace) -> Result<(), AllocError>
+    ensures { OnOk result (GainsJust (λ object. object ≡ object_of place.now) named.old named.new) }
 {
-    if place.level == 0 {
-        return add(named, place.number);
-    }
-    Ok(())
+    let object = ObjectOfLevel {
+        level: place.level,
+        number: place.number,
+    };
+    add(named, object)
 }
 
-// Adds a number, which may be there.
-fn add(named: &mut BTreeSet<u64>, number: u64) -> Result<(), AllocError>
-    ensures { OnOk result (Adds (λ other. other ≡ number) named.old named.new) }
+// Adds an object, which may be there.
+fn add(named: &mut BTreeSet<ObjectOfLevel>, object: ObjectOfLevel) -> Result<(), AllocError>
+    ensures { OnOk result (GainsJust (λ other. other ≡ object) named.old named.new) }
 {
-    named.insert(number)?;
+    named.insert(object)?;
     Ok(())
 }
 

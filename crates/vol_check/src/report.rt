@@ -1,8 +1,8 @@
 use uuid::Uuid;
 
-/// An object that is named and that the store does not have.
-#[derive(Clone, Copy, Debug, PartialEq, Eq)]
-pub struct Missing {
+/// An object of a volume or of one of its ancestors. They are in order by level first, then by number.
+#[derive(Clone, Copy, Debug, PartialEq, Eq, PartialOrd, Ord)]
+pub struct ObjectOfLevel {
     /// Whose object it is: 0 is the volume itself, and i its i-th ancestor.
     pub level: u32,
     /// Its number, 0 to 2^64 - 1.
@@ -27,5 +27,5 @@ pub struct CheckReport {
     pub unneeded: Vec<u64>,
     /// The objects that the newest checkpoint, an object after it, a hold or a checkpoint that one names has
     /// named, and that are absent. By level first, then by number.
-    pub missing: Vec<Missing>,
+    pub missing: Vec<ObjectOfLevel>,
 }

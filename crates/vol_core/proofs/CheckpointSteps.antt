@@ -69,7 +69,11 @@ checkpoint_changes plain false valid = record {
 sealed_list : {R : Type 0} (reply : Reply R) (old new : ObjLogState) → SealsCheckpoint reply old new
     → IsOfList SealCheckpoint reply old new
 sealed_list (told.Sealed number) old new seals = record {
-  same = record { uuid = seals.0.sealed.uuid; geometry = ap (λ (b : BatchState). b.geometry) seals.1 };
+  same = record {
+    uuid = seals.0.sealed.uuid;
+    ancestors = seals.0.sealed.ancestors;
+    geometry = ap (λ (b : BatchState). b.geometry) seals.1;
+  };
   back = tt;
   quiet = refl;
   stays = λ was. refl;
@@ -77,7 +81,11 @@ sealed_list (told.Sealed number) old new seals = record {
 sealed_list told.Busy old new seals = record { same = same_list old new seals.0; back = tt; quiet = refl; stays = λ was. refl }
 sealed_list told.OutOfMemory old new seals =
     record {
-      same = record { uuid = seals.0.uploads.uuid; geometry = seals.0.geometry };
+      same = record {
+        uuid = seals.0.uploads.uuid;
+        ancestors = seals.0.uploads.ancestors;
+        geometry = seals.0.geometry;
+      };
       back = tt;
       quiet = refl;
       stays = λ was.

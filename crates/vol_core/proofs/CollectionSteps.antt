@@ -156,6 +156,7 @@ module _ {R : Type 0} (state : R → ReceiptState) (old : VolumeState) (objects 
       record {
         same = record {
           uuid = ap (λ (u : UploadsState). u.uuid) marked;
+          ancestors = ap (λ (u : UploadsState). u.ancestors) marked;
           geometry = ap (λ (b : BatchState). b.geometry) batch;
         };
         back = back;
@@ -257,7 +258,7 @@ module _ {R : Type 0} (state : R → ReceiptState) (old : VolumeState) (objects 
   refused_quiet copied back seal_refusals.OutOfMemory same refuses =
       let room = refuses.3 in
       record {
-        same = record { uuid = room.uploads.uuid; geometry = room.geometry };
+        same = record { uuid = room.uploads.uuid; ancestors = room.uploads.ancestors; geometry = room.geometry };
         back = same;
         quiet = refl;
         copying = refuses.2;
@@ -283,6 +284,7 @@ module _ {R : Type 0} (state : R → ReceiptState) (old : VolumeState) (objects 
       record {
         same = record {
           uuid = ap (λ (u : UploadsState). u.uuid) seals.ended ∙ next.uuid;
+          ancestors = ap (λ (u : UploadsState). u.ancestors) seals.ended ∙ next.ancestors;
           geometry = ap (λ (b : BatchState). b.geometry) (seals.batch ∙ seals.seals.batch);
         };
         back = tt;
@@ -397,7 +399,7 @@ module _ {R : Type 0} (state : R → ReceiptState) (old : VolumeState) (objects 
           back = quiet.back;
           plan = plan;
           copying = quiet.copying;
-          sizes = record { geometry = quiet.same.geometry; uuid = quiet.same.uuid };
+          sizes = record { geometry = quiet.same.geometry; uuid = quiet.same.uuid; ancestors = quiet.same.ancestors };
           numbers = numbers_grow state event reply old changed plain shows steps quiet.counts;
           stops = still_keeps event old changed quiet.same (still old.log);
           faults = subst (λ failed. Counts failed faults faults) (sym quiet.quiet) refl;

@@ -94,8 +94,8 @@ created_shows objects log uuid bytes epoch geometry old limits size_is formatted
       valid = passing_keeps left (created_volume geometry) (created_is geometry limits);
       data_at = data_at;
       objects = shown_with_other_cache data_at objects (created_volume geometry) _ []
-          (new_shows_created data_at objects geometry limits list.batch list.order list.sectors list.window list.frontier list.end
-          list.sealed list.settled list.log);
+          (new_shows_created data_at objects geometry limits list.batch list.order list.sectors list.ancestors list.window
+          list.frontier list.end list.sealed list.settled list.log);
       table = table_shown_with_other_cache queue (created_volume geometry) _
           (new_table_shows_created queue geometry list.frontier list.objects_are list.checkpoint list.removal);
       plan = refl;
@@ -197,12 +197,13 @@ none_is_newest uploads frontier rows checkpoint =
 -- a list without objects that has begun with its first checkpoint is that of a new volume
 pub new_list_is : (uuid : List ℕ) (geometry : Geometry) (receipt : ReceiptState) (old new : ObjLogState)
     → old.batch ≡ record { geometry = geometry; first = 0; entries = []; reserved = 0 } → old.uploads.uuid ≡ uuid
-    → old.uploads.sectors ≡ geometry.sectors → old.uploads.window ≡ record { last = 1; objects = [] }
-    → old.uploads.queue.frontier ≡ 1 → old.uploads.queue.end ≡ 0 → old.uploads.queue.sealed ≡ []
+    → old.uploads.sectors ≡ geometry.sectors → old.uploads.ancestors ≡ 0
+    → old.uploads.window ≡ record { last = 1; objects = [] } → old.uploads.queue.frontier ≡ 1
+    → old.uploads.queue.end ≡ 0 → old.uploads.queue.sealed ≡ []
     → old.uploads.queue.removal ≡ None → old.uploads.queue.maps.settled.rows ≡ [] → old.uploads.queue.maps.log.rows ≡ []
     → old.uploads.queue.maps.objects.rows ≡ [] → new.batch ≡ old.batch → HasBegun receipt old.uploads new.uploads
     → IsUploads new.uploads → IsNewList uuid geometry new
-new_list_is uuid geometry receipt old new batch uuid_is sectors window frontier end sealed removal settled log objects
+new_list_is uuid geometry receipt old new batch uuid_is sectors ancestors window frontier end sealed removal settled log objects
     same_batch
     begun
     order =
@@ -218,6 +219,7 @@ new_list_is uuid geometry receipt old new batch uuid_is sectors window frontier 
           (sym (ap (λ (b : BatchState). b.reserved) is));
       order = order;
       sectors = rest.sectors ∙ sectors;
+      ancestors = rest.ancestors ∙ ancestors;
       window = rest.window ∙ window;
       frontier = rest.frontier ∙ frontier;
       end = rest.end ∙ end;

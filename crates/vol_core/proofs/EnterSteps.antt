@@ -98,16 +98,18 @@ module _ (log : LogState) (reserved : ℕ) where
   reserved_pends cache pends = record { told = pends.told; pending = pends.pending; broken = pends.broken }
 
 -- the uploads are those of every volume also where they have more room
-room_in_order : (uuid : List ℕ) (sectors : ℕ) (queue : QueueState) (window : WindowState) (old : UploadsState) → uuid ≡ old.uuid
-    → sectors ≡ old.sectors → window ≡ old.window → queue.sealed ≡ old.queue.sealed → HasSameSettled old.queue queue
-    → IsUploads old → IsUploads (whole uuid sectors queue window)
-room_in_order uuid sectors queue window old same size places sealed settled is =
-    rw (same, size, places) (uploads_same old.uuid old.sectors old.window old.queue queue is settled.frontier sealed
-    settled.receipts settled.removal settled.places)
+room_in_order : (uuid : List ℕ) (sectors ancestors : ℕ) (queue : QueueState) (window : WindowState) (old : UploadsState)
+    → uuid ≡ old.uuid → sectors ≡ old.sectors → ancestors ≡ old.ancestors → window ≡ old.window
+    → queue.sealed ≡ old.queue.sealed → HasSameSettled old.queue queue
+    → IsUploads old → IsUploads (whole uuid sectors ancestors queue window)
+room_in_order uuid sectors ancestors queue window old same size count places sealed settled is =
+    rw (same, size, count, places) (uploads_same old.uuid old.sectors old.ancestors old.window old.queue queue is
+    settled.frontier sealed settled.receipts settled.removal settled.inherited settled.places)
 
 roomier_uploads : (old new : UploadsState) → IsNotSealed old new → IsUploads old → IsUploads new
 roomier_uploads old new same is =
-    room_in_order new.uuid new.sectors new.queue new.window old same.uuid same.sectors same.window same.sealed same.settled is
+    room_in_order new.uuid new.sectors new.ancestors new.queue new.window old same.uuid same.sectors same.ancestors same.window
+    same.sealed same.settled is
 
 -- ---- room for the calls
 

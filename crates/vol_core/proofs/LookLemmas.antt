@@ -74,7 +74,7 @@ module _ (data_at : ℕ → ℕ) (objects : ObjLogState) (log : LogState) (plain
   objects_have_places k place low high is =
       let sector = get_or (image_now plain) k [] in
       let held = subst (λ p. IsHeldAt log objects.uploads.queue p sector) is (held_in_range k high) in
-      (held.0, object_has place.sector sector (stored_at objects.uploads.queue place) held.1)
+      object_has place.sector sector (stored_at objects.uploads.queue place) held
 
   -- ---- its calls
 

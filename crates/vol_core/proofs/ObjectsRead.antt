@@ -1,6 +1,6 @@
 -- The objects of a plan are those that the plain volume reads.
-use Rattle.std.proofs.Common.{◌≡◌, ℕ, suc, ◌+◌, ◌-◌, ◌<◌, ◌≤◌, ◌==◌, inl, inr, Bool, true, cond, List, [], ◌∷◌, get_or, refl}
-use Rattle.std.proofs.Common.{sym, ◌∙◌, ap, subst, arith}
+use Rattle.std.proofs.Common.{eq-eqb, ◌≡◌, ℕ, suc, ◌+◌, ◌-◌, ◌<◌, ◌≤◌, inl, inr, Bool, true, cond, List, [], ◌∷◌}
+use Rattle.std.proofs.Common.{get_or, refl, sym, ◌∙◌, ap, subst, arith}
 use Rattle.std.specs.Prelude.{Option, Some, None}
 use Rattle.std.specs.List.{All, Contains, filter, list_any, range_with_len}
 use Rattle.std.proofs.lemmas.Bool.{cases_eq, cases_lt, cases_order, cases_Bool}
@@ -20,7 +20,7 @@ use Rattle.object_table.specs.Table.{row_of}
 use Rattle.object_table.proofs.Rows.{its_number}
 use Rattle.object_table.proofs.Listed.{found_holds}
 use Rattle.object_uploads.specs.State.{StoredObject, QueueState}
-use Rattle.object_uploads.specs.Queue.{receipt_in, stored_with, stored_at}
+use Rattle.object_uploads.specs.Queue.{receipt_in, stored_with, inherited_in, stored_at}
 use Rattle.object_uploads.specs.Order.{AreKnown}
 use Rattle.object_uploads.specs.Image.{GivesSector}
 use Rattle.obj_log.specs.State.{ObjLogState}
@@ -202,23 +202,20 @@ known_number uuid queue number row known is =
     (omega (arith, named, low), omega (arith, named, high))
 
 stored_number : (uuid : List ℕ) (queue : QueueState) (place : ObjectPlace) (object : StoredObject) → AreKnown uuid queue
-    → stored_at queue place ≡ Some object → (1 ≤ place.number) × (place.number ≤ queue.frontier)
-stored_number uuid queue place object known is =
+    → place.level ≡ 0 → stored_at queue place ≡ Some object → (1 ≤ place.number) × (place.number ≤ queue.frontier)
+stored_number uuid queue place object known own is =
     let row = row_of place.number queue.maps.objects.rows in
     let there = stored_with (receipt_in queue.receipts place.number) row in
-    elim (cases_Bool (place.level == 0)) [
-      | inl own ↦
-          let has = stored_row (receipt_in queue.receipts place.number) row object
-          (sym (ap (λ b. cond b there None) own) ∙ is) in
-          known_number uuid queue place.number has.0 known has.1
-      | inr other ↦ (let none = sym (ap (λ b. cond b there None) other) ∙ is in let bad : ⊥ = cc in absurd bad)
-    ]
+    let others = inherited_in queue.inherited (record { level = place.level; number = place.number }) in
+    let has = stored_row (receipt_in queue.receipts place.number) row object
+    (sym (ap (λ b. cond b there others) (eq-eqb place.level 0 own)) ∙ is) in
+    known_number uuid queue place.number has.0 known has.1
 
 given_number : (uuid : List ℕ) (queue : QueueState) (place : ObjectPlace) (sector : List ℕ) (object : Option StoredObject)
-    → AreKnown uuid queue → stored_at queue place ≡ object → GivesSector object place.sector sector
+    → AreKnown uuid queue → place.level ≡ 0 → stored_at queue place ≡ object → GivesSector object place.sector sector
     → (1 ≤ place.number) × (place.number ≤ queue.frontier)
-given_number uuid queue place sector None known is gives = absurd gives
-given_number uuid queue place sector (Some object) known is gives = stored_number uuid queue place object known is
+given_number uuid queue place sector None known own is gives = absurd gives
+given_number uuid queue place sector (Some object) known own is gives = stored_number uuid queue place object known own is
 
 -- ---- the objects that are read
 
@@ -226,16 +223,17 @@ module _ (data_at : ℕ → ℕ) (objects : ObjLogState) (log : LogState) (plain
     (shows : ShowsReads data_at objects log plain)
     (lba sectors : ℕ) (inside : lba + sectors ≤ plain.geometry.sectors) where
   -- an object that a sector is placed in is up to the frontier
-  placed_number : (k : ℕ) (place : ObjectPlace) → k < plain.geometry.sectors → volume_place_at objects.uploads.queue.maps k
-      ≡ Some (Object place)
+  placed_number : (k : ℕ) (place : ObjectPlace) → k < plain.geometry.sectors → place.level ≡ 0
+      → volume_place_at objects.uploads.queue.maps k ≡ Some (Object place)
       → (1 ≤ place.number) × (place.number ≤ frontier_of plain)
-  placed_number k place within is =
+  placed_number k place within own is =
       let queue : QueueState = objects.uploads.queue in
       let sector : List ℕ = get_or (image_now plain) k [] in
       let there = slice_get-get_or (image_now plain) k [] (omega (arith, within, image_has_sectors plain shows.valid)) in
       let held = subst (λ p. IsHeldAt log queue p sector) is (places_hold_sectors data_at objects log plain k sector
       shows there) in
-      let number = given_number objects.uploads.uuid queue place sector (stored_at queue place) shows.ordered.known refl held.1 in
+      let number = given_number objects.uploads.uuid queue place sector (stored_at queue place) shows.ordered.known own
+      refl held in
       let reached = (counts data_at objects log plain shows).frontier in
       (number.0, (let most = number.1 in omega (arith, most, reached)))
 
@@ -247,8 +245,8 @@ module _ (data_at : ℕ → ℕ) (objects : ObjLogState) (log : LogState) (plain
       let to = has.to in
       let within : has.k < plain.geometry.sectors = omega (arith, to, inside) in
       let reads = (places_are_of_objects_read data_at objects log plain has.k number shows within).0
-      (has.place, has.is, has.has_number) in
-      let bounds = placed_number has.k has.place within has.is in
+      (has.place, has.is, has.own, has.has_number) in
+      let bounds = placed_number has.k has.place within has.own has.is in
       let named = has.has_number in
       let low = bounds.0 in
       let high = bounds.1 in
@@ -273,7 +271,8 @@ module _ (data_at : ℕ → ℕ) (objects : ObjLogState) (log : LogState) (plain
         from = at.low;
         to = high;
         is = placed.1;
-        has_number = placed.2;
+        own = placed.2;
+        has_number = placed.3;
       }))
 
   -- each object of a plan has a sector that is read from it
@@ -286,7 +285,8 @@ module _ (data_at : ℕ → ℕ) (objects : ObjLogState) (log : LogState) (plain
       let to = has.to in
       let within : has.k < plain.geometry.sectors = omega (arith, to, inside) in (
         has.k,
-        (places_are_of_objects_read data_at objects log plain has.k number shows within).0 (has.place, has.is, has.has_number),
+        (places_are_of_objects_read data_at objects log plain has.k number shows within).0
+            (has.place, has.is, has.own, has.has_number),
       )) numbers (All-contains_itself numbers)
 
   pub objects_are_read : (numbers : List ℕ) → AreObjectsIn lba sectors objects.uploads.queue.maps numbers

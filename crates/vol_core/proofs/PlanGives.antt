@@ -114,7 +114,7 @@ same_sector log queue (Some (Object place)) i plan list given sector listed told
     let there = fetched.object.front + place.sector in
     let is = subst (λ t. IfSome t (λ all. given ≡ sector_of there all)) fetched.tells.told
     (at fetched.object fetched.stored) in
-    let gives = subst (λ object. GivesSector object place.sector sector) fetched.stored held.1 in
+    let gives = subst (λ object. GivesSector object place.sector sector) fetched.stored held in
     is ∙ subst (λ t. IfSome t (λ all. sector_of there all ≡ sector)) fetched.tells.told gives.1
 
 -- ---- all sectors

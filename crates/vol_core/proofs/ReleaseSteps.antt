@@ -35,10 +35,12 @@ pub same_uploads : (uploads : UploadsState) → IsSameButObjects uploads uploads
 same_uploads uploads = record {
   uuid = refl;
   sectors = refl;
+  ancestors = refl;
   window = refl;
   frontier = refl;
   end = refl;
   sealed = refl;
+  inherited = refl;
   settled = refl;
   log = refl;
 }
@@ -48,10 +50,12 @@ same_later : (old middle new : UploadsState) → IsSameButObjects old middle →
 same_later old middle new first then = record {
   uuid = then.uuid ∙ first.uuid;
   sectors = then.sectors ∙ first.sectors;
+  ancestors = then.ancestors ∙ first.ancestors;
   window = then.window ∙ first.window;
   frontier = then.frontier ∙ first.frontier;
   end = then.end ∙ first.end;
   sealed = then.sealed ∙ first.sealed;
+  inherited = then.inherited ∙ first.inherited;
   settled = then.settled ∙ first.settled;
   log = then.log ∙ first.log;
 }

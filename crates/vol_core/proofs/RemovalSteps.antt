@@ -137,7 +137,11 @@ of_none volume receipt refused =
 
 -- all but the table of objects is as before
 others_same : (old new : ObjLogState) → IsSameButObjects old.uploads new.uploads → new.batch ≡ old.batch → IsOfSameVolume old new
-others_same old new rest batch = record { uuid = rest.uuid; geometry = ap (λ (b : BatchState). b.geometry) batch }
+others_same old new rest batch = record {
+  uuid = rest.uuid;
+  ancestors = rest.ancestors;
+  geometry = ap (λ (b : BatchState). b.geometry) batch;
+}
 
 module _ {R : Type 0} (state : R → ReceiptState) where
   taken_list : (reply : Reply R) (old new : ObjLogState) → TakesLowestRemovable state reply old new

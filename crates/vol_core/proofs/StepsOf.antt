@@ -50,12 +50,16 @@ entry_stays (entries.Zero lba sectors) reply was = refl
 -- ---- each call
 
 pub same_list : (old new : ObjLogState) → new ≡ old → IsOfSameVolume old new
-same_list old new is = subst (IsOfSameVolume old) (sym is) (record { uuid = refl; geometry = refl })
+same_list old new is = subst (IsOfSameVolume old) (sym is) (record { uuid = refl; ancestors = refl; geometry = refl })
 
 sealed_list : {R : Type 0} (reply : Reply R) (old new : ObjLogState) → Seals reply old new → IsOfList Seal reply old new
 sealed_list (told.Sealed number) old new seals =
     record {
-      same = record { uuid = seals.0.uploads.uuid; geometry = seals.0.geometry };
+      same = record {
+        uuid = seals.0.uploads.uuid;
+        ancestors = seals.0.uploads.ancestors;
+        geometry = seals.0.geometry;
+      };
       back = tt;
       quiet = refl;
       stays = λ was.
@@ -63,7 +67,11 @@ sealed_list (told.Sealed number) old new seals =
     }
 sealed_list told.Nothing old new seals =
     record {
-      same = record { uuid = seals.0.uploads.uuid; geometry = seals.0.geometry };
+      same = record {
+        uuid = seals.0.uploads.uuid;
+        ancestors = seals.0.uploads.ancestors;
+        geometry = seals.0.geometry;
+      };
       back = tt;
       quiet = refl;
       stays = λ was.
@@ -71,7 +79,11 @@ sealed_list told.Nothing old new seals =
     }
 sealed_list told.Busy old new seals =
     record {
-      same = record { uuid = seals.0.uploads.uuid; geometry = seals.0.geometry };
+      same = record {
+        uuid = seals.0.uploads.uuid;
+        ancestors = seals.0.uploads.ancestors;
+        geometry = seals.0.geometry;
+      };
       back = tt;
       quiet = refl;
       stays = λ was.
@@ -79,7 +91,11 @@ sealed_list told.Busy old new seals =
     }
 sealed_list told.OutOfMemory old new seals =
     record {
-      same = record { uuid = seals.0.uploads.uuid; geometry = seals.0.geometry };
+      same = record {
+        uuid = seals.0.uploads.uuid;
+        ancestors = seals.0.uploads.ancestors;
+        geometry = seals.0.geometry;
+      };
       back = tt;
       quiet = refl;
       stays = λ was.
@@ -90,7 +106,7 @@ sealed_list reply old new seals = absurd seals
 taken_list : {R : Type 0} (reply : Reply R) (old new : ObjLogState) → TakesLowestReady reply old new
     → IsOfList TakeJob reply old new
 taken_list (told.Taken job) old new taken = record {
-  same = subst (IsOfSameVolume old) (sym taken.2) (record { uuid = refl; geometry = refl });
+  same = subst (IsOfSameVolume old) (sym taken.2) (record { uuid = refl; ancestors = refl; geometry = refl });
   back = tt;
   quiet = refl;
   stays = λ was. refl;
@@ -102,7 +118,7 @@ done_list : {R : Type 0} (state : R → ReceiptState) (job : JobState) (receipt 
     → Finishes state job receipt reply old new
     → IsOfList (JobDone job receipt) reply old new
 done_list state job receipt (told.Done frontier) old new done = record {
-  same = record { uuid = done.1.uuid; geometry = ap (λ b. b.geometry) done.2 };
+  same = record { uuid = done.1.uuid; ancestors = done.1.ancestors; geometry = ap (λ b. b.geometry) done.2 };
   back = tt;
   quiet = refl;
   stays = λ was. refl;
@@ -114,7 +130,7 @@ done_list state job receipt reply old new done = absurd done
 returned_list : {R : Type 0} (job : JobState) (reply : Reply R) (old new : ObjLogState) → Returns job reply old new
     → IsOfList (JobFailed job) reply old new
 returned_list job told.Returned old new returned = record {
-  same = subst (IsOfSameVolume old) (sym returned.1) (record { uuid = refl; geometry = refl });
+  same = subst (IsOfSameVolume old) (sym returned.1) (record { uuid = refl; ancestors = refl; geometry = refl });
   back = tt;
   quiet = refl;
   stays = λ was. refl;
@@ -139,7 +155,7 @@ module _ {R : Type 0} (state : R → ReceiptState) (old : VolumeState) (objects 
         back = list.back;
         plan = plan;
         copying = list.stays old.plan;
-        sizes = record { geometry = list.same.geometry; uuid = list.same.uuid };
+        sizes = record { geometry = list.same.geometry; uuid = list.same.uuid; ancestors = list.same.ancestors };
         numbers = numbers_grow state event reply old new plain shows steps counts;
         stops = objects_keep event old objects list.same;
         faults = subst (λ failed. Counts failed faults faults) (sym list.quiet) refl;
@@ -188,9 +204,13 @@ module _ {R : Type 0} (state : R → ReceiptState) (old : VolumeState) (objects 
   step_of_release given uploads ascend some out batch =
       let left = pins_leave unpinned given.objects old.objects.uploads objects.uploads out in
       let new : VolumeState = with_objects objects old in
-      let geometry = ap (λ (b : BatchState). b.geometry) batch in
+      let same : IsOfSameVolume old.objects objects = record {
+        uuid = left.uuid;
+        ancestors = left.ancestors;
+        geometry = ap (λ (b : BatchState). b.geometry) batch;
+      } in
       step_of_list (Release given) told.Released
-      (record { same = record { uuid = left.uuid; geometry = geometry }; back = tt; quiet = refl; stays = λ was. refl }) tt
+      (record { same = same; back = tt; quiet = refl; stays = λ was. refl }) tt
       (released_steps state given old objects uploads ascend some out batch) (counts_stay old new refl left.window)
       (same_bytes old new left.sealed left.frontier)
 

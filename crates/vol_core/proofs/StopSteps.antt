@@ -78,9 +78,10 @@ still log = record {
   moments = refl;
 }
 
--- the list has the uuid and the geometry that it had
+-- the list has the uuid, the ancestors and the geometry that it had
 pub record IsOfSameVolume (old new : ObjLogState) : Type 0 where
   pub uuid : new.uploads.uuid ≡ old.uploads.uuid
+  pub ancestors : new.uploads.ancestors ≡ old.uploads.ancestors
   pub geometry : new.batch.geometry ≡ old.batch.geometry
 
 pub own_after : (owner : CacheOwner) (old new : VolumeState) → IsOfSameVolume old.objects new.objects
@@ -181,14 +182,18 @@ reserved_is_still log reserved = record {
 }
 
 room_is_of_same : (old new : ObjLogState) → IsSame old new → IsOfSameVolume old new
-room_is_of_same old new same = record { uuid = same.uploads.uuid; geometry = same.geometry }
+room_is_of_same old new same = record {
+  uuid = same.uploads.uuid;
+  ancestors = same.uploads.ancestors;
+  geometry = same.geometry;
+}
 
 unchanged_keeps : {R : Type 0} (event : Event R) (old : VolumeState) (objects : ObjLogState) (log : LogState)
     → objects ≡ old.objects → log ≡ old.log
     → StepKeeps event old (with_both objects log old)
 unchanged_keeps event old objects log same_objects same_log =
     still_keeps event old (with_both objects log old)
-    (subst (IsOfSameVolume old.objects) (sym same_objects) (record { uuid = refl; geometry = refl }))
+    (subst (IsOfSameVolume old.objects) (sym same_objects) (record { uuid = refl; ancestors = refl; geometry = refl }))
     (subst (IsStill old.log) (sym same_log) (still old.log))
 
 entry_may_commit : (R : Type 0) (entry : Entry) → may_commit (event_of {R = R} entry) ≡ true
@@ -241,7 +246,11 @@ module _ {R : Type 0} (entry : Entry) (old : VolumeState)
   entering_keeps_stops (told.Entered count) objects log after enters =
       let same = enters.comes.same in
       came_keeps (Ok enters.at) enters.ready objects log after.commits.is_disk
-      (record { uuid = enters.added.uuid ∙ same.uploads.uuid; geometry = enters.added.geometry ∙ same.geometry }) enters.comes
+      (record {
+        uuid = enters.added.uuid ∙ same.uploads.uuid;
+        ancestors = enters.added.ancestors ∙ same.uploads.ancestors;
+        geometry = enters.added.geometry ∙ same.geometry;
+      }) enters.comes
   entering_keeps_stops (told.NotEntered back why) objects log after enters =
       refused_keeps why objects log after.commits.is_disk enters.1
   entering_keeps_stops reply objects log after enters = absurd enters

@@ -21,13 +21,14 @@ use Rattle.vol_core.specs.View.{PendsAs, volume_disk}
 use Rattle.vol_core.specs.Stops.{HasOwnCommits}
 
 -- The list of a volume that is created: its first object, a checkpoint of no sectors, is acknowledged, and there is no other and
--- no entry.
+-- no entry. It has no ancestors.
 pub record IsNewList (uuid : List ℕ) (geometry : Geometry) (objects : ObjLogState) : Type 0 where
   pub uuid_is : objects.uploads.uuid ≡ uuid
   pub batch : objects.batch
       ≡ record { geometry = geometry; first = 0; entries = []; reserved = objects.batch.reserved }
   pub order : IsUploads objects.uploads
   pub sectors : objects.uploads.sectors ≡ geometry.sectors
+  pub ancestors : objects.uploads.ancestors ≡ 0
   pub window : objects.uploads.window ≡ record { last = 1; objects = [] }
   pub frontier : objects.uploads.queue.frontier ≡ 1
   pub end : objects.uploads.queue.end ≡ 0

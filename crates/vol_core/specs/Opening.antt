@@ -8,12 +8,12 @@ use Rattle.plain_disk.specs.Valid.{IsPlainVolume}
 use Rattle.vol_core.specs.Volume.{VolumeState}
 use Rattle.vol_core.specs.Shows.{Shows}
 
--- each place in the map of a volume's objects that is in one up to a number is where that object of the plain volume has the
--- sector
+-- each place in the map of a volume's objects that is in one up to a number, or in an ancestor's, is where that object has the
+-- plain volume's sector
 abbrev pub ArePlacedTo : VolumeState → PlainState → (number : ℕ) → Type 0
 ArePlacedTo volume plain number =
     (k : ℕ) → IfSome (settled_at volume.objects.uploads.queue.maps k) (λ (place : ObjectPlace).
-    place.number ≤ number → IsPlacedIn (stream_in plain) k place)
+    (place.level ≡ 0 → place.number ≤ number) → IsPlacedIn (stream_in plain) k place)
 
 -- Where a volume shows what a plain volume becomes when the entries of its first objects are folded into its image, up to one
 -- that is not past the frontier, and no object is on its way, it shows that plain volume, if its map has the places of those

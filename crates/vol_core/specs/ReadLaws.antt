@@ -40,7 +40,8 @@ abbrev pub PlacesAreOfObjectsRead : Type 0
 PlacesAreOfObjectsRead =
     (data_at : ℕ → ℕ) (objects : ObjLogState) (log : LogState) (plain : PlainState) (k number : ℕ)
     → ShowsReads data_at objects log plain → k < plain.geometry.sectors
-    → ((place : ObjectPlace) × (volume_place_at objects.uploads.queue.maps k ≡ Some (Object place)) × (place.number ≡ number))
+    → ((place : ObjectPlace) × (volume_place_at objects.uploads.queue.maps k ≡ Some (Object place)) × (place.level ≡ 0)
+    × (place.number ≡ number))
     ↔ (is_read_from plain number k ≡ true)
 
 -- The shortest list of rows of a range has as many rows of data in the log as the range has maximal runs of sectors that one same

@@ -165,10 +165,11 @@ pub record IsNoStep {R : Type 0} (state : R → ReceiptState) (event : Event R) 
   pub shows : Shows new plain
   pub pending : ShowsPending old.log plain.cache → ShowsPending new.log plain.cache
 
--- no step changes the geometry, nor the uuid
+-- no step changes the geometry, nor the uuid, nor how many ancestors there are
 pub record HasSameSizes (old new : VolumeState) : Type 0 where
   pub geometry : new.objects.batch.geometry ≡ old.objects.batch.geometry
   pub uuid : new.objects.uploads.uuid ≡ old.objects.uploads.uuid
+  pub ancestors : new.objects.uploads.ancestors ≡ old.objects.uploads.ancestors
 
 -- what the reply to an event and the volume after it are, by each plain volume that the volume showed
 abbrev pub StepsAsPlain : {R : Type 0} → (R → ReceiptState) → Event R → Reply R → (old new : VolumeState) → Type 0

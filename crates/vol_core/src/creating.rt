@@ -18,9 +18,9 @@ use uuid::Uuid;
 // The number of the first object, a checkpoint without rows.
 const FIRST_OBJECT: u64 = 1;
 
-/// The list of a volume that is created, which begins with its first object, a checkpoint of no sectors. The
-/// geometry is within the limits, and the receipt has the name of that object (conditions). The one error is
-/// that memory ran out.
+/// The list of a volume that is created, which begins with its first object, a checkpoint of no sectors, and
+/// has no ancestors. The geometry is within the limits, and the receipt has the name of that object
+/// (conditions). The one error is that memory ran out.
 pub fn new_list<R: Receipt>(
     alloc: Global,
     uuid: Uuid,
@@ -31,7 +31,7 @@ pub fn new_list<R: Receipt>(
     requires named { (R.state receipt).name ≡ numbered_name uuid FIRST_OBJECT }
     ensures { IfOk result (IsNewList uuid geometry) }
 {
-    let mut objects = ObjLog::new(alloc, uuid, geometry, FIRST_OBJECT, 0);
+    let mut objects = ObjLog::new(alloc, uuid, geometry, 0, FIRST_OBJECT, 0);
     objects.uploads_mut().begin(receipt)?;
     Ok(objects)
 }

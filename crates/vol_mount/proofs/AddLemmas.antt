@@ -40,6 +40,7 @@ same_self log = record {
   uploads = record {
     uuid = refl;
     sectors = refl;
+    ancestors = refl;
     sealed = refl;
     window = refl;
     settled = record {
@@ -47,6 +48,7 @@ same_self log = record {
       end = refl;
       receipts = refl;
       removal = refl;
+      inherited = refl;
       places = record { settled = refl; log = refl; objects = refl; checkpoint = refl };
     };
   };
@@ -60,6 +62,7 @@ same_then old middle new first second = record {
   uploads = record {
     uuid = second.uploads.uuid ∙ first.uploads.uuid;
     sectors = second.uploads.sectors ∙ first.uploads.sectors;
+    ancestors = second.uploads.ancestors ∙ first.uploads.ancestors;
     sealed = second.uploads.sealed ∙ first.uploads.sealed;
     window = second.uploads.window ∙ first.uploads.window;
     settled = record {
@@ -67,6 +70,7 @@ same_then old middle new first second = record {
       end = second.uploads.settled.end ∙ first.uploads.settled.end;
       receipts = second.uploads.settled.receipts ∙ first.uploads.settled.receipts;
       removal = second.uploads.settled.removal ∙ first.uploads.settled.removal;
+      inherited = second.uploads.settled.inherited ∙ first.uploads.settled.inherited;
       places = record {
         settled = second.uploads.settled.places.settled ∙ first.uploads.settled.places.settled;
         log = second.uploads.settled.places.log ∙ first.uploads.settled.places.log;
@@ -102,6 +106,7 @@ pub record HasAdded (entries : List Entry) (old new : ObjLogState) : Type 0 wher
   pub entries_are : new.batch.entries ≡ old.batch.entries ++ entries
   pub window : new.uploads.window ≡ old.uploads.window
   pub uuid : new.uploads.uuid ≡ old.uploads.uuid
+  pub ancestors : new.uploads.ancestors ≡ old.uploads.ancestors
   pub objects : HasSameObjects old.uploads.queue new.uploads.queue
 
 same_objects : (old new : UploadsState) → IsNotSealed old new → HasSameObjects old.queue new.queue
@@ -140,6 +145,7 @@ has_added data_at [] old new same = record {
   entries_are = same.entries ∙ sym (append-nil old.batch.entries);
   window = same.uploads.window;
   uuid = same.uploads.uuid;
+  ancestors = same.uploads.ancestors;
   objects = same_objects old.uploads new.uploads same.uploads;
 }
 has_added data_at (entry ∷ entries) old new adds =
@@ -154,6 +160,7 @@ has_added data_at (entry ∷ entries) old new adds =
           ∙ append_assoc old.batch.entries (entry ∷ []) entries;
       window = rest.window ∙ (added.window ∙ same.uploads.window);
       uuid = rest.uuid ∙ (added.uuid ∙ same.uploads.uuid);
+      ancestors = rest.ancestors ∙ (added.ancestors ∙ same.uploads.ancestors);
       objects =
           objects_then old.uploads.queue adds.0.uploads.queue new.uploads.queue (same_objects old.uploads adds.0.uploads
           same.uploads)

@@ -1,6 +1,7 @@
 -- For `begin_epoch`: what a put of an epoch that failed leaves.
 use Rattle.std.proofs.Common.{◌≡◌, ℕ, false, refl, sym, subst, inl, inr, List}
-use Rattle.std.specs.Prelude.{Option, Some, None, IfSome}
+use Rattle.std.specs.Prelude.{Option, Some, None, IfSome, length}
+use Rattle.clone_chain.specs.declared.ancestor.Ancestor.{Ancestor}
 use Rattle.lsvd_base.specs.declared.geometry.Geometry.{Geometry}
 use Rattle.lsvd_fault.specs.Faults.{Counts}
 use Rattle.lsvd_objstore.specs.Objects.{Objects}
@@ -40,9 +41,9 @@ pub put_counts : (error : SuperError) (old middle new : ℕ) → middle ≡ old 
 put_counts error old middle new same counts =
     subst (λ b. Counts b old new) (same_fault error) (subst (λ n. Counts (is_store_fault error) n new) same counts)
 
-module _ (Tells : Type 0) (uuid : List ℕ) (geometry : Geometry) (number epoch : ℕ) where
+module _ (Tells : Type 0) (uuid : List ℕ) (geometry : Geometry) (chain : List Ancestor) (number epoch : ℕ) where
   abbrev volume : Expected
-  volume = expected_of uuid geometry
+  volume = expected_of uuid geometry (length chain)
 
   begun : (old middle new : Objects) → (Tells → IsLastLanded volume old number) → RemovesAllPast uuid number old middle
       → MayBecome (PutsEpoch uuid epoch) middle new → MayBeginEpoch Tells volume epoch old new
@@ -63,7 +64,7 @@ module _ (Tells : Type 0) (uuid : List ℕ) (geometry : Geometry) (number epoch 
       → Becomes (RemovesAllPast uuid number) old middle → Becomes (MayBeginEpoch Tells volume epoch) old middle
   may_begin_less old middle last removed =
       becomes_so (MayRemovePast Tells volume) (MayBeginEpoch Tells volume epoch) old middle (λ a b is. inl is)
-      (may_leave_less Tells uuid geometry number old middle last (all_removed uuid number old middle removed))
+      (may_leave_less Tells uuid geometry chain number old middle last (all_removed uuid number old middle removed))
 
   -- What is left of a store from which the objects past the first missing number were removed, and whose next epoch was not put,
   -- or was not acknowledged.

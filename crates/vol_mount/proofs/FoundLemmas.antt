@@ -6,6 +6,7 @@ use Rattle.std.specs.Option.{option_map}
 use Rattle.std.specs.List.{AllByRecursion}
 use Rattle.std.proofs.lemmas.List.{ext_get_or}
 use Rattle.std.proofs.lemmas.List.Elements.{All-nil}
+use Rattle.clone_chain.specs.declared.ancestor.Ancestor.{Ancestor}
 use Rattle.lsvd_base.specs.declared.entry.Entry.{Entry}
 use Rattle.lsvd_base.specs.declared.geometry.Geometry.{Geometry}
 use Rattle.lsvd_base.specs.Limits.{is_within_limits}
@@ -90,16 +91,18 @@ since_synced P now past moments holds (inr synced) = record { since = after_sync
 -- ---- a plain volume that was left
 
 -- its sizes are these, that of its log too
-pub left_sizes : (uuid : List ℕ) (geometry : Geometry) (epoch : ℕ) (plain : PlainState) (found : PlainCommit) (number : ℕ)
-    (told : Option Objects) (old : DiskState) → IsLeft (owner_with uuid epoch) geometry plain found number told old
+pub left_sizes : (uuid : List ℕ) (geometry : Geometry) (chain : List Ancestor) (epoch : ℕ) (plain : PlainState)
+    (found : PlainCommit) (number : ℕ)
+    (told : Option Objects) (old : DiskState) → IsLeft (owner_with uuid epoch) geometry chain plain found number told old
     → plain.geometry ≡ geometry
-left_sizes uuid geometry epoch plain found number told old left =
+left_sizes uuid geometry chain epoch plain found number told old left =
     ap (λ log. sizes_with log plain.geometry) left.log_is ∙ sym left.stored.sizes
 
-module _ (uuid : List ℕ) (geometry : Geometry) (epoch : ℕ) (plain : PlainState) (found : PlainCommit) (number : ℕ)
+module _ (uuid : List ℕ) (geometry : Geometry) (chain : List Ancestor) (epoch : ℕ) (plain : PlainState) (found : PlainCommit)
+    (number : ℕ)
     (told : Option Objects) (old : DiskState)
     (size : log_start ≤ old.size) (sectors : geometry.log ≡ log_of old.size) (is_disk : IsDisk old)
-    (left : IsLeft (owner_with uuid epoch) geometry plain found number told old) where
+    (left : IsLeft (owner_with uuid epoch) geometry chain plain found number told old) where
   abbrev count : ℕ
   count = end_of_object number plain
 
@@ -187,7 +190,7 @@ module _ (uuid : List ℕ) (geometry : Geometry) (epoch : ℕ) (plain : PlainSta
         let there : AreRecordsInRange geometry commits.body has_commit.rows newest.now.bytes =
         subst (λ b. AreRecordsInRange geometry b has_commit.rows newest.now.bytes) body_is
         (subst (λ g. AreRecordsInRange g has_commit.body has_commit.rows newest.now.bytes)
-        (left_sizes uuid geometry epoch plain found number told old left) has_commit.records) in
+        (left_sizes uuid geometry chain epoch plain found number told old left) has_commit.records) in
         have_one_list geometry commits.body has_commit.rows log.rows newest.now.bytes may there records_are
 
     abbrev pub entries_left : List Entry

@@ -4,6 +4,7 @@ use Rattle.std.proofs.Common.{arith, length-drop, length-append}
 use Rattle.std.specs.Prelude.{Option, Some, None, IfSome, IsTrue, max, slice_index_or}
 use Rattle.std.specs.List.{All}
 use Rattle.std.proofs.lemmas.List.Elements.{All-nil, All-cons}
+use Rattle.clone_chain.specs.declared.ancestor.Ancestor.{Ancestor}
 use Rattle.lsvd_base.specs.declared.entry.Entry.{Entry}
 use Rattle.lsvd_base.specs.declared.geometry.Geometry.{Geometry}
 use Rattle.lsvd_base.specs.Limits.{is_within_limits}
@@ -88,13 +89,14 @@ told_one told all list is same = sym (subst (λ t. IfSome t (λ l. l ≡ list)) 
 
 -- ---- a plain volume that was left
 
-module _ (uuid : List ℕ) (geometry : Geometry) (epoch : ℕ) (list : ObjLogState) (checkpoint : ℕ) (told : Option Objects)
+module _ (uuid : List ℕ) (geometry : Geometry) (chain : List Ancestor) (epoch : ℕ) (list : ObjLogState) (checkpoint : ℕ)
+    (told : Option Objects)
     (old : DiskState) (log : LogState)
     (limits : IsTrue (is_within_limits geometry)) (size : log_start ≤ old.size) (sectors : geometry.log ≡ log_of old.size)
     (is_disk : IsDisk old)
-    (is : IsRecovered uuid geometry list checkpoint)
+    (is : IsRecovered uuid geometry (length chain) list checkpoint)
     (opened : IsOpenedOf (owner_with uuid epoch) geometry list.uploads.queue.end old log)
-    (from : IfSome told (λ o. IsRecoveredFrom uuid geometry o list checkpoint)) where
+    (from : IfSome told (λ o. IsRecoveredFrom uuid geometry chain o list checkpoint)) where
   abbrev end : ℕ
   end = list.uploads.queue.end
 
@@ -108,34 +110,35 @@ module _ (uuid : List ℕ) (geometry : Geometry) (epoch : ℕ) (list : ObjLogSta
   of_log = committed_at end (log_found geometry.log body log.rows)
 
   module _ (plain : PlainState) (found : PlainCommit) (number : ℕ)
-      (left : IsLeft owner geometry plain found number told old)
+      (left : IsLeft owner geometry chain plain found number told old)
     where
-      of : (o : Objects) × IsListOf uuid geometry plain number o list checkpoint
-      of = list_of uuid geometry plain number told list checkpoint limits is from left.stored
+      of : (o : Objects) × IsListOf uuid geometry chain plain number o list checkpoint
+      of = list_of uuid geometry chain plain number told list checkpoint limits is from left.stored
 
       abbrev rest : PlainState
       rest = mounted_without geometry.log number plain
 
       -- its entries past the objects' end
       abbrev entries : List Entry
-      entries = entries_left uuid geometry epoch plain found number told old size sectors is_disk left end log limits opened
+      entries = entries_left uuid geometry chain epoch plain found number told old size sectors is_disk left end log limits opened
 
       -- with them it is what a mount is to make
       goes_on : going_on entries of_log rest ≡ mounted_with found number plain
       goes_on =
-          let has = has_commit uuid geometry epoch plain found number told old size sectors is_disk left in
+          let has = has_commit uuid geometry chain epoch plain found number told old size sectors is_disk left in
           let count : ℕ = end_of_object number plain in
           let P : List Entry → ℕ → Geometry → CommitBody → List Row → PlainState =
           λ l n g b r. going_on l (committed_at n (log_found g.log b r)) (mounted_without g.log number plain) in
           ap (λ l. P l end geometry body log.rows)
-          (left_are uuid geometry epoch plain found number told old size sectors is_disk left end log limits opened of.1.end_is)
+          (left_are uuid geometry chain epoch plain found number told old size sectors is_disk left end log limits opened
+          of.1.end_is)
           ∙ ap (λ n. P (entries_past plain count has.body.head.seq) n geometry body log.rows) of.1.end_is
           ∙ ap (λ g. P (entries_past plain count has.body.head.seq) count g body log.rows)
-          (sym (left_sizes uuid geometry epoch plain found number told old left))
+          (sym (left_sizes uuid geometry chain epoch plain found number told old left))
           ∙ ap (λ b. P (entries_past plain count has.body.head.seq) count plain.geometry b log.rows)
-          (sym (body_is uuid geometry epoch plain found number told old size sectors is_disk left end log limits opened))
+          (sym (body_is uuid geometry chain epoch plain found number told old size sectors is_disk left end log limits opened))
           ∙ ap (λ r. P (entries_past plain count has.body.head.seq) count plain.geometry has.body r)
-          (sym (rows_are uuid geometry epoch plain found number told old size sectors is_disk left end log limits opened))
+          (sym (rows_are uuid geometry chain epoch plain found number told old size sectors is_disk left end log limits opened))
           ∙ mounted_is_going_on uuid owner plain found number of.0 _ left.stored.valid of.1.has has
 
       -- whatever a stop leaves meanwhile reads as the one or as the other
@@ -145,50 +148,55 @@ module _ (uuid : List ℕ) (geometry : Geometry) (epoch : ℕ) (list : ObjLogSta
           let K : Medium → Type 0 = StopKeepsMount owner plain found number in
           let trimmed : LogState = leaves.0 in
           let trims : IsTrimmed end log trimmed = leaves.1 in
-          let now = newest uuid geometry epoch plain found number told old size sectors is_disk left in
-          let loaded = after uuid geometry epoch plain found number told old size sectors is_disk left end log limits opened in
+          let now = newest uuid geometry chain epoch plain found number told old size sectors is_disk left in
+          let loaded = after uuid geometry chain epoch plain found number told old size sectors is_disk left end log limits
+          opened in
           let keeps =
           committing_keeps_mount owner plain found number now.now.bytes loaded.newest loaded.older opened.commits log trimmed new
           left.stored.valid
-          (has_commit uuid geometry epoch plain found number told old size sectors is_disk left)
-          (long uuid geometry epoch plain found number told old size sectors is_disk left)
+          (has_commit uuid geometry chain epoch plain found number told old size sectors is_disk left)
+          (long uuid geometry chain epoch plain found number told old size sectors is_disk left)
           loaded.bytes_are
-          (moments_are uuid geometry epoch plain found number told old size sectors is_disk left end log limits opened)
-          (sym (body_is uuid geometry epoch plain found number told old size sectors is_disk left end log limits opened))
+          (moments_are uuid geometry chain epoch plain found number told old size sectors is_disk left end log limits opened)
+          (sym (body_is uuid geometry chain epoch plain found number told old size sectors is_disk left end log limits opened))
           opened.up_to.finished
-          (subst (λ g. IsOpenedLog g opened.commits log) (sym (left_sizes uuid geometry epoch plain found number told old left))
+          (subst (λ g. IsOpenedLog g opened.commits log) (sym
+          (left_sizes uuid geometry chain epoch plain found number told old left))
           opened.up_to.opened)
-          (sym (rows_are uuid geometry epoch plain found number told old size sectors is_disk left end log limits opened))
+          (sym (rows_are uuid geometry chain epoch plain found number told old size sectors is_disk left end log limits opened))
           (subst (λ n. IsTrimmed n log trimmed) of.1.end_is trims) new_is_disk leaves.2 in
           let moments : trimmed.commits.disk.moments ≡ log.commits.disk.moments =
           ap (λ (c : CommitsState). c.disk.moments) trims.commits in
           passes_on K old.moments log.commits.disk.moments new.moments
-          (load_keeps uuid geometry epoch plain found number told old size sectors is_disk left log.commits.disk opened.settled)
+          (load_keeps uuid geometry chain epoch plain found number told old size sectors is_disk left log.commits.disk
+          opened.settled)
           (subst (λ m. HoldsSince K m new.moments) moments keeps)
 
-  pub completing_keeps : (new : DiskState) → IsDisk new → LeavesFrom end log new → KeepsLeft owner geometry told old new
+  pub completing_keeps : (new : DiskState) → IsDisk new → LeavesFrom end log new → KeepsLeft owner geometry chain told old new
   completing_keeps new new_is_disk leaves = λ plain found number left synced. keeps_left plain found number left new new_is_disk
       leaves
 
 -- ---- the tests
 
 -- store and device passed all, where the log was opened
-pub passes_left : (uuid : List ℕ) (geometry : Geometry) (epoch : ℕ) (list : ObjLogState) (checkpoint greatest : ℕ)
+pub passes_left : (uuid : List ℕ) (geometry : Geometry) (chain : List Ancestor) (epoch : ℕ) (list : ObjLogState)
+    (checkpoint greatest : ℕ)
     (told : Option Objects) (old : DiskState) (log : LogState)
-    → IsRecovered uuid geometry list checkpoint → IfSome told (λ o. IsRecoveredFrom uuid geometry o list checkpoint)
-    → HasExtent uuid geometry told greatest list.uploads.queue.end → list.uploads.window.last ≤ greatest
+    → IsRecovered uuid geometry (length chain) list checkpoint
+    → IfSome told (λ o. IsRecoveredFrom uuid geometry chain o list checkpoint)
+    → HasExtent uuid geometry chain told greatest list.uploads.queue.end → list.uploads.window.last ≤ greatest
     → (epoch < max_number) × (greatest < max_number)
     → (opened : IsOpenedOf (owner_with uuid epoch) geometry list.uploads.queue.end old log)
-    → PassesLeft (owner_with uuid epoch) geometry told old list.uploads.window.last
+    → PassesLeft (owner_with uuid epoch) geometry chain told old list.uploads.window.last
     (max list.uploads.queue.end opened.commits.body.head.seq)
-passes_left uuid geometry epoch list checkpoint greatest told old log is from extent less low opened =
+passes_left uuid geometry chain epoch list checkpoint greatest told old log is from extent less low opened =
     let end : ℕ = list.uploads.queue.end in
     let entries : ℕ = max end opened.commits.body.head.seq in
     let most = low.1 in
     let P : ℕ → CommitBody → Type 0 =
     λ n b. IsOwnCommit (owner_with uuid epoch) end b × (n < max_number) × (entries ≡ max end b.head.seq) in
     record {
-      good = good_up_to uuid geometry told list checkpoint (omega (arith, less, most)) is from;
+      good = good_up_to uuid geometry chain told list checkpoint (omega (arith, less, most)) is from;
       greatest = greatest;
       end = end;
       extent = extent;
@@ -210,10 +218,11 @@ passes_left uuid geometry epoch list checkpoint greatest told old log is from ex
 
 -- ---- its calls
 
-pub completing_costs : (uuid : List ℕ) (geometry : Geometry) (epoch end : ℕ) (old new : DiskState) (log : LogState) (made : Bool)
+pub completing_costs : (uuid : List ℕ) (geometry : Geometry) (chain : List Ancestor) (epoch end : ℕ) (old new : DiskState)
+    (log : LogState) (made : Bool)
     → IsOpenedOf (owner_with uuid epoch) geometry end old log
     → MakesAtMost (again_cost (length log.rows)) made log.commits.disk new → CostsMount geometry.log made old new
-completing_costs uuid geometry epoch end old new log made opened again =
+completing_costs uuid geometry chain epoch end old new log made opened again =
     let seqs = opened.up_to.opened.rows.seqs in
     let count : length log.rows ≡ entry_count opened.commits.body = omega (arith, seqs) in
     costs_again geometry made old log.commits.disk new opened.commits.number opened.commits.body opened.read opened.calls
@@ -221,9 +230,10 @@ completing_costs uuid geometry epoch end old new log made opened again =
 
 -- ---- the volume
 
-module _ (uuid : List ℕ) (geometry : Geometry) (epoch : ℕ) (list : ObjLogState) (checkpoint : ℕ) (old : DiskState)
+module _ (uuid : List ℕ) (geometry : Geometry) (chain : List Ancestor) (epoch : ℕ) (list : ObjLogState) (checkpoint : ℕ)
+    (old : DiskState)
     (log new : LogState) (objects : ObjLogState)
-    (limits : IsTrue (is_within_limits geometry)) (is : IsRecovered uuid geometry list checkpoint)
+    (limits : IsTrue (is_within_limits geometry)) (is : IsRecovered uuid geometry (length chain) list checkpoint)
     (opened : IsOpenedOf (owner_with uuid epoch) geometry list.uploads.queue.end old log)
     (done : IsCompleted list log new objects) where
   abbrev end_is : ℕ
@@ -298,10 +308,11 @@ module _ (uuid : List ℕ) (geometry : Geometry) (epoch : ℕ) (list : ObjLogSta
 
   pub kept_shows_some : (plain : PlainState) × Shows (volume_of objects new) plain
   kept_shows_some =
-      let some = list_shows_some uuid geometry checkpoint list.uploads.window.last end_is list limits is.numbered is.from is.list
+      let some = list_shows_some uuid geometry chain checkpoint list.uploads.window.last end_is list limits is.numbered is.from
+      is.list
       is.order is.places is.table in (
         passing (fuse_in new.commits.disk.budget) (going_on done.entries found_log some.0),
-        kept_shows some.0 some.1 some.2 some.3,
+        kept_shows some.0 some.2 some.3 some.4,
       )
 
   pub last_is : objects.uploads.window.last ≡ list.uploads.window.last
@@ -350,7 +361,7 @@ module _ (uuid : List ℕ) (geometry : Geometry) (epoch : ℕ) (list : ObjLogSta
       let whole = count_is in
       omega (arith, first, entries, whole)
 
-  pub kept_of_volume : IsOfVolume (owner_with uuid epoch) geometry (mounted_of objects new)
+  pub kept_of_volume : IsOfVolume (owner_with uuid epoch) geometry chain (mounted_of objects new)
   kept_of_volume =
       let first = opened_has_committed own_cache geometry opened.commits log opened.is_of opened.up_to.finished
       opened.up_to.opened in
@@ -361,6 +372,7 @@ module _ (uuid : List ℕ) (geometry : Geometry) (epoch : ℕ) (list : ObjLogSta
       record {
         uuid_is = uuid_is;
         geometry_is = geometry_is;
+        ancestors_are = added.ancestors ∙ is.list.ancestors_are;
         steps = refl;
         own = subst (λ g. HasCommitted own_cache g new) (sym geometry_is) own;
         last = refl;
@@ -383,17 +395,17 @@ module _ (uuid : List ℕ) (geometry : Geometry) (epoch : ℕ) (list : ObjLogSta
   -- ---- what it is of a plain volume that was left
 
   module _ (told : Option Objects) (size : log_start ≤ old.size) (sectors : geometry.log ≡ log_of old.size) (is_disk : IsDisk old)
-      (from : IfSome told (λ o. IsRecoveredFrom uuid geometry o list checkpoint)) where
-    pub mounts_left : MountsLeft (owner_with uuid epoch) geometry told old (mounted_of objects new)
+      (from : IfSome told (λ o. IsRecoveredFrom uuid geometry chain o list checkpoint)) where
+    pub mounts_left : MountsLeft (owner_with uuid epoch) geometry chain told old (mounted_of objects new)
     mounts_left = λ plain found number left.
-        let of = (list_of uuid geometry plain number told list checkpoint limits is from left.stored).1 in
+        let of = (list_of uuid geometry chain plain number told list checkpoint limits is from left.stored).1 in
         let rest : PlainState = mounted_without geometry.log number plain in
         let told_entries = done.trims.entries
-        ∙ told_is uuid geometry epoch plain found number told old size sectors is_disk left end_is log limits opened in
+        ∙ told_is uuid geometry chain epoch plain found number told old size sectors is_disk left end_is log limits opened in
         let same = told_one done.trimmed.entries _ done.entries told_entries done.told in
         let goes : going_on done.entries found_log rest ≡ mounted_with found number plain =
         ap (λ l. going_on l found_log rest) same
-        ∙ goes_on uuid geometry epoch list checkpoint told old log limits size sectors is_disk is opened from plain found
+        ∙ goes_on uuid geometry chain epoch list checkpoint told old log limits size sectors is_disk is opened from plain found
         number left in
         let shows = kept_shows rest of.at_rest of.shows of.table in
         let first = added.first ∙ is.list.first in
@@ -407,7 +419,8 @@ module _ (uuid : List ℕ) (geometry : Geometry) (epoch : ℕ) (list : ObjLogSta
           entries = omega (arith, first, count, history, longer, whole);
           number_is = last_is ∙ of.number_is;
           knows =
-              knows_added (expected_of uuid geometry) told plain.checkpoint.number list.uploads.queue objects.uploads.queue
+              knows_added (expected_of uuid geometry
+              (length chain)) told plain.checkpoint.number list.uploads.queue objects.uploads.queue
               added.objects
-              (knows_stored uuid geometry plain number told list checkpoint limits from left.stored);
+              (knows_stored uuid geometry chain plain number told list checkpoint limits from left.stored);
         }

@@ -1,7 +1,8 @@
 -- Why a mount with the cache gives none, and what is left then.
 use Rattle.std.proofs.Common.{◌≡◌, ℕ, ◌<◌, ◌≤◌, false, List, [], refl, sym, ◌∙◌, ap, subst, inl, inr, arith}
-use Rattle.std.specs.Prelude.{Option, IfSome, IsTrue}
+use Rattle.std.specs.Prelude.{Option, IfSome, IsTrue, length}
 use Rattle.std.proofs.Math.Path.{subst₂}
+use Rattle.clone_chain.specs.declared.ancestor.Ancestor.{Ancestor}
 use Rattle.lsvd_base.specs.declared.geometry.Geometry.{Geometry}
 use Rattle.lsvd_base.specs.Limits.{is_within_limits}
 use Rattle.lsvd_device.specs.Device.{DiskState, IsDisk, HoldsNow}
@@ -31,14 +32,16 @@ use Rattle.vol_mount.proofs.FoundLemmas.{reads_one, at_newest, left_sizes, newes
 -- ---- the list was not recovered
 
 -- nothing was done to the device
-pub keeps_same : (uuid : List ℕ) (geometry : Geometry) (epoch : ℕ) (told : Option Objects) (old : DiskState)
-    → KeepsLeft (owner_with uuid epoch) geometry told old old
-keeps_same uuid geometry epoch told old = λ plain found number left synced. record { since = []; moments = refl; each = tt }
+pub keeps_same : (uuid : List ℕ) (geometry : Geometry) (chain : List Ancestor) (epoch : ℕ) (told : Option Objects)
+    (old : DiskState)
+    → KeepsLeft (owner_with uuid epoch) geometry chain told old old
+keeps_same uuid geometry chain epoch told old = λ plain found number left synced. record { since = []; moments = refl; each = tt }
 
-pub refuses_none_too : (uuid : List ℕ) (geometry : Geometry) (epoch : ℕ) (told : Option Objects) (old : DiskState)
+pub refuses_none_too : (uuid : List ℕ) (geometry : Geometry) (chain : List Ancestor) (epoch : ℕ) (told : Option Objects)
+    (old : DiskState)
     (error : MountError)
-    → RefusesNoneStored uuid geometry told error → RefusesNoneLeft (owner_with uuid epoch) geometry told old error
-refuses_none_too uuid geometry epoch told old error none = λ plain found number left. none plain number left.stored
+    → RefusesNoneStored uuid geometry chain told error → RefusesNoneLeft (owner_with uuid epoch) geometry chain told old error
+refuses_none_too uuid geometry chain epoch told old error none = λ plain found number left. none plain number left.stored
 
 -- ---- a call failed
 
@@ -50,10 +53,11 @@ device_faulted Passes geometry StoreFault old new fault passes = inr passes
 device_faulted Passes geometry DeviceFault old new fault passes = inr (inr passes)
 device_faulted Passes geometry OutOfMemory old new fault passes = inr (inr passes)
 
-pub faults_refuse_no_left : (error : MountError) (uuid : List ℕ) (geometry : Geometry) (epoch : ℕ) (told : Option Objects)
+pub faults_refuse_no_left : (error : MountError) (uuid : List ℕ) (geometry : Geometry) (chain : List Ancestor) (epoch : ℕ)
+    (told : Option Objects)
     (old : DiskState) → IsFault error
-    → RefusesNoneLeft (owner_with uuid epoch) geometry told old error
-faults_refuse_no_left error uuid geometry epoch told old fault = λ plain found number left. faults_refuse_none error fault
+    → RefusesNoneLeft (owner_with uuid epoch) geometry chain told old error
+faults_refuse_no_left error uuid geometry chain epoch told old fault = λ plain found number left. faults_refuse_none error fault
 
 -- ---- the log was not opened
 
@@ -81,42 +85,43 @@ pub device_opened : (Passes : Type 0) (geometry : Geometry) (error : MountError)
     → MayLeaveDevice ⊥ geometry error old new → LeavesDevice Passes geometry error old new
 device_opened Passes geometry error old new leaves = inr (device_too Passes geometry error old new leaves)
 
-module _ (uuid : List ℕ) (geometry : Geometry) (epoch : ℕ) (told : Option Objects) (old : DiskState) (size : log_start ≤ old.size)
+module _ (uuid : List ℕ) (geometry : Geometry) (chain : List Ancestor) (epoch : ℕ) (told : Option Objects) (old : DiskState)
+    (size : log_start ≤ old.size)
     (sectors : geometry.log ≡ log_of old.size) (is_disk : IsDisk old) where
   -- whatever a stop left meanwhile reads as the commit of each plain volume that was left
-  pub opening_keeps : (new : DiskState) → LeavesSettled old new → KeepsLeft (owner_with uuid epoch) geometry told old new
+  pub opening_keeps : (new : DiskState) → LeavesSettled old new → KeepsLeft (owner_with uuid epoch) geometry chain told old new
   opening_keeps new settled = λ plain found number left synced.
-      load_keeps uuid geometry epoch plain found number told old size sectors is_disk left new settled
+      load_keeps uuid geometry chain epoch plain found number told old size sectors is_disk left new settled
 
   module _ (plain : PlainState) (found : PlainCommit) (number : ℕ)
-      (left : IsLeft (owner_with uuid epoch) geometry plain found number told old)
+      (left : IsLeft (owner_with uuid epoch) geometry chain plain found number told old)
     where
       -- the device reads as the commit of the plain volume alone
       reads_as_left : (P : ℕ → CommitBody → Type 0) → ReadsAsCommitOf geometry P old
-          → P (has_commit uuid geometry epoch plain found number told old size sectors is_disk left).number
-          (has_commit uuid geometry epoch plain found number told old size sectors is_disk left).body
+          → P (has_commit uuid geometry chain epoch plain found number told old size sectors is_disk left).number
+          (has_commit uuid geometry chain epoch plain found number told old size sectors is_disk left).body
       reads_as_left P reads =
-          let has = has_commit uuid geometry epoch plain found number told old size sectors is_disk left in
-          let at = newest uuid geometry epoch plain found number told old size sectors is_disk left in
+          let has = has_commit uuid geometry chain epoch plain found number told old size sectors is_disk left in
+          let at = newest uuid geometry chain epoch plain found number told old size sectors is_disk left in
           let here =
           at_newest (λ now. (n : ℕ) × (b : CommitBody) × Reads geometry.log now.bytes b n × P n b) old.moments at.now at.past
           at.moments_are reads in
           let one =
           reads_one geometry.log at.now.bytes here.0 has.number here.1 has.body here.2
-          (settled_slots uuid geometry epoch plain found number told old size sectors is_disk left).reads in
+          (settled_slots uuid geometry chain epoch plain found number told old size sectors is_disk left).reads in
           subst₂ P one.0 one.1 here.3
 
       reads_some : HoldsNow (λ now. ReadsNone geometry.log now.bytes) old.moments → ⊥
       reads_some none =
-          let at = newest uuid geometry epoch plain found number told old size sectors is_disk left in
-          let slots = settled_slots uuid geometry epoch plain found number told old size sectors is_disk left in
+          let at = newest uuid geometry chain epoch plain found number told old size sectors is_disk left in
+          let slots = settled_slots uuid geometry chain epoch plain found number told old size sectors is_disk left in
           at_newest (λ now. ReadsNone geometry.log now.bytes) old.moments at.now at.past at.moments_are none slots.reads.slot _ _
           slots.reads.is_open
 
       has_records : (P : ℕ → CommitBody → Type 0) (seq : ℕ) (reason : Reason) → IsBadLeftLog geometry P old seq reason → ⊥
       has_records P seq reason bad =
-          let has = has_commit uuid geometry epoch plain found number told old size sectors is_disk left in
-          let at = newest uuid geometry epoch plain found number told old size sectors is_disk left in
+          let has = has_commit uuid geometry chain epoch plain found number told old size sectors is_disk left in
+          let at = newest uuid geometry chain epoch plain found number told old size sectors is_disk left in
           let here =
           at_newest (λ now. (n : ℕ) × (b : CommitBody) × Reads geometry.log now.bytes b n × P n b
           × IsBadRecord geometry b seq reason now.bytes
@@ -124,24 +129,24 @@ module _ (uuid : List ℕ) (geometry : Geometry) (epoch : ℕ) (told : Option Ob
           at.moments_are bad in
           let one =
           reads_one geometry.log at.now.bytes has.number here.0 has.body here.1
-          (settled_slots uuid geometry epoch plain found number told old size sectors is_disk left).reads here.2 in
+          (settled_slots uuid geometry chain epoch plain found number told old size sectors is_disk left).reads here.2 in
           here.5 has.rows
           (subst (λ b. AreRecordsInRange geometry b has.rows at.now.bytes) one.1
           (subst (λ g. AreRecordsInRange g has.body has.rows at.now.bytes)
-          (left_sizes uuid geometry epoch plain found number told old left) has.records))
+          (left_sizes uuid geometry chain epoch plain found number told old left) has.records))
 
       module _ (limits : IsTrue (is_within_limits geometry)) (list : ObjLogState) (checkpoint : ℕ)
-          (is : IsRecovered uuid geometry list checkpoint)
-          (from : IfSome told (λ o. IsRecoveredFrom uuid geometry o list checkpoint)) where
+          (is : IsRecovered uuid geometry (length chain) list checkpoint)
+          (from : IfSome told (λ o. IsRecoveredFrom uuid geometry chain o list checkpoint)) where
         abbrev Past : ℕ → CommitBody → Type 0
         Past n b = (owner_of b ≡ owner_with uuid epoch) × (list.uploads.queue.end < b.tail.seq)
 
         begins_before : ReadsAsCommitOf geometry Past old → ⊥
         begins_before reads =
             let past = (reads_as_left Past reads).1 in
-            let has = has_commit uuid geometry epoch plain found number told old size sectors is_disk left in
+            let has = has_commit uuid geometry chain epoch plain found number told old size sectors is_disk left in
             let tail = has.tail in
-            let end = (list_of uuid geometry plain number told list checkpoint limits is from left.stored).1.end_is in
+            let end = (list_of uuid geometry chain plain number told list checkpoint limits is from left.stored).1.end_is in
             absurd (omega (arith, past, tail, end))
 
         refuses_not : (error : MountError) (greatest : ℕ) → IsWhyNotOpened (owner_with uuid epoch) geometry list.uploads.queue.end
@@ -150,11 +155,11 @@ module _ (uuid : List ℕ) (geometry : Geometry) (epoch : ℕ) (told : Option Ob
         refuses_not (Refused (NoSlot log)) greatest why = absurd (reads_some why.1)
         refuses_not (Refused (WrongVolume other)) greatest why =
             let wrong = reads_as_left (λ n b. (b.uuid ≡ other) × (other ≡ uuid → ⊥)) why in
-            let has = has_commit uuid geometry epoch plain found number told old size sectors is_disk left in
+            let has = has_commit uuid geometry chain epoch plain found number told old size sectors is_disk left in
             absurd (wrong.1 (sym wrong.0 ∙ ap (λ (owner : CacheOwner). owner.uuid) has.is_of))
         refuses_not (Refused (StaleCache cache store)) greatest why =
             let stale = reads_as_left (λ n b. (b.uuid ≡ uuid) × (b.epoch ≡ cache)) why.2 in
-            let has = has_commit uuid geometry epoch plain found number told old size sectors is_disk left in
+            let has = has_commit uuid geometry chain epoch plain found number told old size sectors is_disk left in
             absurd (why.1 (sym stale.1 ∙ ap (λ (owner : CacheOwner). owner.epoch) has.is_of))
         refuses_not (Refused (BadRecord seq reason)) greatest (inl past) = absurd (begins_before past.2)
         refuses_not (Refused (BadRecord seq reason)) greatest (inr bad) =
@@ -166,9 +171,9 @@ module _ (uuid : List ℕ) (geometry : Geometry) (epoch : ℕ) (told : Option Ob
         refuses_not OutOfMemory greatest why = refl
 
   pub opening_refuses_none : IsTrue (is_within_limits geometry) → (list : ObjLogState) (checkpoint : ℕ)
-      → IsRecovered uuid geometry list checkpoint
-      → IfSome told (λ o. IsRecoveredFrom uuid geometry o list checkpoint) → (error : MountError) (greatest : ℕ)
+      → IsRecovered uuid geometry (length chain) list checkpoint
+      → IfSome told (λ o. IsRecoveredFrom uuid geometry chain o list checkpoint) → (error : MountError) (greatest : ℕ)
       → IsWhyNotOpened (owner_with uuid epoch) geometry list.uploads.queue.end greatest old error
-      → RefusesNoneLeft (owner_with uuid epoch) geometry told old error
+      → RefusesNoneLeft (owner_with uuid epoch) geometry chain told old error
   opening_refuses_none limits list checkpoint is from error greatest why = λ plain found number left.
       refuses_not plain found number left limits list checkpoint is from error greatest why

@@ -3,6 +3,7 @@ use Rattle.std.proofs.Common.{◌≡◌, ℕ, ◌+◌, ◌<◌, ◌≤◌, List,
 use Rattle.std.specs.Prelude.{Option, IfSome, IsTrue}
 use Rattle.std.proofs.lemmas.Bool.Decides.{nat_tests}
 use Rattle.std.proofs.lemmas.List.{append-nil}
+use Rattle.clone_chain.specs.declared.ancestor.Ancestor.{Ancestor}
 use Rattle.lsvd_base.specs.declared.entry.Entry.{Entry}
 use Rattle.lsvd_base.specs.declared.geometry.Geometry.{Geometry}
 use Rattle.lsvd_base.specs.Limits.{is_within_limits}
@@ -55,10 +56,11 @@ goes_nowhere geometry checkpoint end plain rest =
     (append-nil plain.entries)
     ∙ ap (λ (cache : PlainCache). record plain { cache = cache }) (sym rest.cache)
 
-module _ (uuid : List ℕ) (geometry : Geometry) (epoch : ℕ) (list : ObjLogState) (checkpoint : ℕ) (old : DiskState)
+module _ (uuid : List ℕ) (geometry : Geometry) (chain : List Ancestor) (epoch : ℕ) (list : ObjLogState) (checkpoint : ℕ)
+    (old : DiskState)
     (log : LogState)
     (limits : IsTrue (is_within_limits geometry)) (sectors : geometry.log ≡ log_of old.size)
-    (is : IsRecovered uuid geometry list checkpoint)
+    (is : IsRecovered uuid geometry (length chain) list checkpoint)
     (formatted : IsFormattedLog uuid epoch list.uploads.queue.end old log) where
   abbrev end : ℕ
   end = list.uploads.queue.end
@@ -93,9 +95,10 @@ module _ (uuid : List ℕ) (geometry : Geometry) (epoch : ℕ) (list : ObjLogSta
 
   pub lost_shows_some : (plain : PlainState) × Shows (volume_of list log) plain
   lost_shows_some =
-      let some = list_shows_some uuid geometry checkpoint list.uploads.window.last end list limits is.numbered is.from is.list
+      let some = list_shows_some uuid geometry chain checkpoint list.uploads.window.last end list limits is.numbered is.from
+      is.list
       is.order is.places is.table in
-      (passing (fuse_in log.commits.disk.budget) some.0, lost_shows some.0 some.1 some.2 some.3)
+      (passing (fuse_in log.commits.disk.budget) some.0, lost_shows some.0 some.2 some.3 some.4)
 
   pub lost_is_small : (before : ℕ) → AreLow before list → IsSmall (volume_of list log) 0
   lost_is_small before are =
@@ -111,12 +114,13 @@ module _ (uuid : List ℕ) (geometry : Geometry) (epoch : ℕ) (list : ObjLogSta
         pins = λ number. none_more (no_pins list.uploads.queue checkpoint is.table number);
       }
 
-  pub lost_of_volume : IsOfVolume (owner_with uuid epoch) geometry (mounted_of list log)
+  pub lost_of_volume : IsOfVolume (owner_with uuid epoch) geometry chain (mounted_of list log)
   lost_of_volume =
       let own = formatted_has_committed (owner_with uuid epoch) end geometry old log formatted in
       record {
         uuid_is = is.list.uuid_is;
         geometry_is = is.list.geometry_is;
+        ancestors_are = is.list.ancestors_are;
         steps = refl;
         own = subst (λ g. HasCommitted (owner_with uuid epoch) g log) (sym is.list.geometry_is) own;
         last = refl;
@@ -131,15 +135,15 @@ module _ (uuid : List ℕ) (geometry : Geometry) (epoch : ℕ) (list : ObjLogSta
   pub history_is : list.batch.first + length list.batch.entries ≡ end
   history_is = (let first = is.list.first in let none = ap length is.list.entries in omega (arith, first, none))
 
-  pub mounts_stored : (objects : Option Objects) → IfSome objects (λ o. IsRecoveredFrom uuid geometry o list checkpoint)
-      → MountsStored uuid geometry objects (mounted_of list log)
+  pub mounts_stored : (objects : Option Objects) → IfSome objects (λ o. IsRecoveredFrom uuid geometry chain o list checkpoint)
+      → MountsStored uuid geometry chain objects (mounted_of list log)
   mounts_stored objects from = λ plain number stored.
-      let of = (list_of uuid geometry plain number objects list checkpoint limits is from stored).1 in
+      let of = (list_of uuid geometry chain plain number objects list checkpoint limits is from stored).1 in
       let whole = history_is in
       let history = of.at_rest.history in
       record {
         shows = lost_shows (mounted_without geometry.log number plain) of.at_rest of.shows of.table;
         entries = omega (arith, whole, history);
         number_is = of.number_is;
-        knows = knows_stored uuid geometry plain number objects list checkpoint limits from stored;
+        knows = knows_stored uuid geometry chain plain number objects list checkpoint limits from stored;
       }

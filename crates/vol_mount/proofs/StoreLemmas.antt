@@ -1,6 +1,7 @@
 -- What becomes of a store while a volume is mounted.
 use Rattle.std.proofs.Common.{◌≡◌, ℕ, refl, ap, subst, inl, inr, List}
-use Rattle.std.specs.Prelude.{Option, Some, None, IfSome}
+use Rattle.std.specs.Prelude.{Option, Some, None, IfSome, length}
+use Rattle.clone_chain.specs.declared.ancestor.Ancestor.{Ancestor}
 use Rattle.lsvd_base.specs.declared.geometry.Geometry.{Geometry}
 use Rattle.lsvd_objstore.specs.Objects.{Objects}
 use Rattle.lsvd_objstore.specs.Store.{StoreState, OnlyCounts, Becomes}
@@ -36,14 +37,21 @@ none_removed uuid number None new same = same
 none_removed uuid number (Some old) new same = (old, same, record { others = λ name not. refl; removed = λ name. inl refl })
 
 -- that is what a recovery may leave
-pub may_leave_same : (Tells : Type 0) (uuid : List ℕ) (geometry : Geometry) (old new : Option Objects) → new ≡ old
-    → Becomes (MayRemovePast Tells (expected_of uuid geometry)) old new
-may_leave_same Tells uuid geometry None new same = same
-may_leave_same Tells uuid geometry (Some old) new same = (old, same, inl refl)
+pub may_leave_same : (Tells : Type 0) (uuid : List ℕ) (geometry : Geometry) (chain : List Ancestor) (old new : Option Objects)
+    → new ≡ old
+    → Becomes (MayRemovePast Tells (expected_of uuid geometry (length chain))) old new
+may_leave_same Tells uuid geometry chain None new same = same
+may_leave_same Tells uuid geometry chain (Some old) new same = (old, same, inl refl)
 
-pub may_leave_less : (Tells : Type 0) (uuid : List ℕ) (geometry : Geometry) (number : ℕ) (old new : Option Objects)
-    → (Tells → IfSome old (λ objects. IsLastLanded (expected_of uuid geometry) objects number))
+pub may_leave_less : (Tells : Type 0) (uuid : List ℕ) (geometry : Geometry) (chain : List Ancestor) (number : ℕ)
+    (old new : Option Objects)
+    → (Tells → IfSome old (λ objects. IsLastLanded (expected_of uuid geometry (length chain)) objects number))
     → Becomes (Removes (IsPastOf uuid number)) old new
-    → Becomes (MayRemovePast Tells (expected_of uuid geometry)) old new
-may_leave_less Tells uuid geometry number None new last becomes = becomes
-may_leave_less Tells uuid geometry number (Some old) new last becomes = (becomes.0, becomes.1, inr (number, last, becomes.2))
+    → Becomes (MayRemovePast Tells (expected_of uuid geometry (length chain))) old new
+may_leave_less Tells uuid geometry chain number None new last becomes = becomes
+may_leave_less Tells uuid geometry chain number (Some old) new last becomes = (
+  becomes.0,
+  becomes.1,
+  inr
+      (number, last, becomes.2),
+)

@@ -1,5 +1,6 @@
 -- Contract: what is seen of a volume that was mounted.
-use Rattle.std.specs.Prelude.{◌≡◌, ℕ, ◌+◌, Option, None, IfSome, []}
+use Rattle.std.specs.Prelude.{◌≡◌, ℕ, ◌+◌, Option, None, IfSome, [], List, length}
+use Rattle.clone_chain.specs.declared.ancestor.Ancestor.{Ancestor}
 use Rattle.lsvd_base.specs.declared.geometry.Geometry.{Geometry}
 use Rattle.lsvd_device.specs.Device.{DiskState, HoldsNow}
 use Rattle.lsvd_objstore.specs.Objects.{Objects}
@@ -34,9 +35,10 @@ NumbersNextCommit log old mounted =
 
 -- It is the volume that was asked for, has made no step, and its commits are of this owner, which has its uuid. Each of its
 -- objects is acknowledged, no plan of a read and none of a copy is out, and no removal.
-pub record IsOfVolume (owner : CacheOwner) (geometry : Geometry) (mounted : MountedState) : Type 0 where
+pub record IsOfVolume (owner : CacheOwner) (geometry : Geometry) (chain : List Ancestor) (mounted : MountedState) : Type 0 where
   pub uuid_is : mounted.volume.volume.objects.uploads.uuid ≡ owner.uuid
   pub geometry_is : mounted.volume.volume.objects.batch.geometry ≡ geometry
+  pub ancestors_are : mounted.volume.volume.objects.uploads.ancestors ≡ length chain
   pub steps : mounted.volume.steps ≡ 0
   pub own : HasOwnCommits owner mounted.volume.volume
   pub last : mounted.number ≡ mounted.volume.volume.objects.uploads.window.last

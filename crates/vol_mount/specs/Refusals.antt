@@ -1,6 +1,7 @@
 -- Contract: why a volume is not mounted.
 use Rattle.std.specs.Prelude.{◌≡◌, ℕ, ◌^◌, ◌<◌, ◌≤◌, ◌⊎◌, max, Bool, true, false, Option, None, IfSome, IsTrue, Result, Ok, Err}
-use Rattle.std.specs.Prelude.{List, [], ◌∷◌}
+use Rattle.std.specs.Prelude.{List, [], ◌∷◌, length}
+use Rattle.clone_chain.specs.declared.ancestor.Ancestor.{Ancestor}
 use Rattle.lsvd_base.specs.declared.geometry.Geometry.{Geometry}
 use Rattle.lsvd_base.specs.Image.{Image}
 use Rattle.lsvd_device.specs.Device.{DiskState, HoldsNow}
@@ -21,12 +22,14 @@ use Rattle.cache_log.specs.declared.error.LogReadError.{LogReadError}
 use Rattle.cache_log.specs.declared.error.LogReadError.TheVariants as read_errors
 use Rattle.object_format.specs.declared.expected.Expected.{Expected}
 use Rattle.object_stream.specs.Stream.{Stream, Owners, end_at}
+use Rattle.stopped_volume.specs.Ancestors.{uuid_in_chain}
 use Rattle.stopped_volume.specs.Holds.{HasHeldCheckpoints}
 use Rattle.stopped_volume.specs.Objects.{landed_in}
 use Rattle.stopped_volume.specs.Opening.{IsCheckpointOf}
 use Rattle.stopped_volume.specs.Device.{CacheOwner, owner_of}
 use Rattle.refusals.specs.declared.refusal.Refusal.TheVariants.{NoVolume, BadSuper, NoCheckpoint, BadObject}
-use Rattle.refusals.specs.declared.refusal.Refusal.TheVariants.{MissingObject, NoSlot, WrongVolume, StaleCache, BadRecord, Worn}
+use Rattle.refusals.specs.declared.refusal.Refusal.TheVariants.{MissingObject, BaseMissing, NoSlot, WrongVolume, StaleCache}
+use Rattle.refusals.specs.declared.refusal.Refusal.TheVariants.{BadRecord, Worn}
 use Rattle.super_recovery.specs.declared.error.SuperError.{SuperError}
 use Rattle.super_recovery.specs.declared.error.SuperError.TheVariants as supers
 use Rattle.object_recovery.specs.declared.error.RecoverError.{RecoverError}
@@ -44,6 +47,7 @@ abbrev pub of_recovery : RecoverError → MountError
 of_recovery recovery.NoCheckpoint = Refused NoCheckpoint
 of_recovery (recovery.BadObject number reason) = Refused (BadObject number reason)
 of_recovery (recovery.MissingObject number) = Refused (MissingObject number)
+of_recovery (recovery.BaseMissing ancestor) = Refused (BaseMissing ancestor)
 of_recovery recovery.StoreFault = StoreFault
 of_recovery recovery.OutOfMemory = OutOfMemory
 
@@ -69,18 +73,19 @@ of_super supers.OutOfMemory = OutOfMemory
 -- ---- the objects
 
 -- each object that the rows of the checkpoint with this number name is there, by its header, and its payload has their places
-abbrev pub AreAllNamed : (volume : Expected) → Objects → (base : ℕ) → Type 0
-AreAllNamed volume objects base =
+abbrev pub AreAllNamed : (volume : Expected) → (uuid_at : ℕ → Option (List ℕ)) → Objects → (base : ℕ) → Type 0
+AreAllNamed volume uuid_at objects base =
     (end : ℕ) (owned : Owners) → (checkpoint : IsCheckpointOf volume objects base end owned)
-    → AreNamedThere volume objects checkpoint.rows
+    → AreNamedThere volume uuid_at objects checkpoint.rows
 
 -- The objects of a store are good: the store has a whole checkpoint of the volume, and the objects that the newest one names;
 -- each object past that is of the grammar and, up to the first missing number, goes on where the one before it ends. The
 -- checkpoint of each hold is there.
-abbrev pub HasGoodObjects : (uuid : List ℕ) → Geometry → Option Objects → Type 0
-HasGoodObjects uuid geometry objects =
-    IfSome objects (λ objects. (base : ℕ) × (0 < base) × AreAllGood (expected_of uuid geometry) objects base
-    × AreAllNamed (expected_of uuid geometry) objects base × HasHeldCheckpoints (expected_of uuid geometry) objects)
+abbrev pub HasGoodObjects : (uuid : List ℕ) → Geometry → List Ancestor → Option Objects → Type 0
+HasGoodObjects uuid geometry chain objects =
+    IfSome objects (λ objects. (base : ℕ) × (0 < base) × AreAllGood (expected_of uuid geometry (length chain)) objects base
+    × AreAllNamed (expected_of uuid geometry (length chain)) (uuid_in_chain uuid chain) objects base
+    × HasHeldCheckpoints (expected_of uuid geometry (length chain)) objects)
 
 -- ---- the device
 
@@ -116,46 +121,56 @@ IsFirstGreat (number ∷ numbers) value = ((2 ^ 60 ≤ number) × (value ≡ num
 
 -- The greatest number of the volume's objects in a store. Where it is not too great, this is the end of the object before the
 -- first missing one, if the store has a stream of the volume.
-pub record IsExtent (uuid : List ℕ) (geometry : Geometry) (objects : Objects) (greatest end : ℕ) : Type 0 where
+pub record IsExtent (uuid : List ℕ) (geometry : Geometry) (chain : List Ancestor) (objects : Objects)
+    (greatest end : ℕ) : Type 0 where
   pub none_greater : (name : ObjName) → IsName name → IsPastOf uuid greatest name → found objects name ≡ None
-  pub present : IsTrue (landed_in objects (expected_of uuid geometry) greatest)
-  pub end_is : greatest < 2 ^ 60 → (uuid_at : ℕ → Option (List ℕ)) (stream : Stream) (opening : Image) (number : ℕ)
-      → HasDataUpTo (expected_of uuid geometry) uuid_at objects stream opening number → end ≡ end_at stream number
+  pub present : IsTrue (landed_in objects (expected_of uuid geometry (length chain)) greatest)
+  pub end_is : greatest < 2 ^ 60 → (stream : Stream) (opening : Image) (number : ℕ)
+      → HasDataUpTo (expected_of uuid geometry (length chain)) (uuid_in_chain uuid chain) objects stream opening number
+      → end ≡ end_at stream number
 
-abbrev pub HasExtent : (uuid : List ℕ) → Geometry → Option Objects → (greatest end : ℕ) → Type 0
-HasExtent uuid geometry objects greatest end = IfSome objects (λ objects. IsExtent uuid geometry objects greatest end)
+abbrev pub HasExtent : (uuid : List ℕ) → Geometry → List Ancestor → Option Objects → (greatest end : ℕ) → Type 0
+HasExtent uuid geometry chain objects greatest end = IfSome objects (λ objects. IsExtent uuid geometry chain objects greatest end)
 
 -- The objects are good, but the first of these numbers is too great: the epoch, the greatest number of an object, and the count
 -- of entries in the objects.
-abbrev pub IsWornStored : (uuid : List ℕ) → Geometry → (epoch : ℕ) → Option Objects → (value : ℕ) → Type 0
-IsWornStored uuid geometry epoch objects value =
+abbrev pub IsWornStored : (uuid : List ℕ) → Geometry → List Ancestor → (epoch : ℕ) → Option Objects → (value : ℕ) → Type 0
+IsWornStored uuid geometry chain epoch objects value =
     (greatest : ℕ) × (end : ℕ) × IsFirstGreat (epoch ∷ greatest ∷ end ∷ []) value
-    × HasExtent uuid geometry objects greatest end × HasGoodObjects uuid geometry objects
+    × HasExtent uuid geometry chain objects greatest end × HasGoodObjects uuid geometry chain objects
 
 -- ---- the whole
 
+-- a recovery of the objects of a volume refuses them by this error
+abbrev pub IsRefusedBy : (uuid : List ℕ) → Geometry → List Ancestor → RecoverError → Objects → Type 0
+IsRefusedBy uuid geometry chain error objects =
+    IsRefusedThere (expected_of uuid geometry (length chain)) (uuid_in_chain uuid chain) objects error
+
 -- why the objects of a store are refused, where receipts tell what they stand for; the objects of a volume have numbers from 1 on
-abbrev pub IsWhyNotStored : (uuid : List ℕ) → Geometry → Option Objects → MountError → Type 0
-IsWhyNotStored uuid geometry objects (Refused NoCheckpoint) =
-    IfSome objects (λ objects. (number : ℕ) → 0 < number → IsNoCheckpoint (expected_of uuid geometry) objects number)
-IsWhyNotStored uuid geometry objects (Refused (BadObject number reason)) =
-    IfSome objects (λ objects. IsRefusedThere (expected_of uuid geometry) objects (recovery.BadObject number reason))
-IsWhyNotStored uuid geometry objects (Refused (MissingObject number)) =
-    IfSome objects (λ objects. IsRefusedThere (expected_of uuid geometry) objects (recovery.MissingObject number))
-IsWhyNotStored uuid geometry objects StoreFault = Unit {0}
-IsWhyNotStored uuid geometry objects DeviceFault = Unit {0}
-IsWhyNotStored uuid geometry objects OutOfMemory = Unit {0}
-IsWhyNotStored uuid geometry objects error = ⊥
+abbrev pub IsWhyNotStored : (uuid : List ℕ) → Geometry → List Ancestor → Option Objects → MountError → Type 0
+IsWhyNotStored uuid geometry chain objects (Refused NoCheckpoint) =
+    IfSome objects (λ objects. (number : ℕ) → 0 < number → IsNoCheckpoint (expected_of uuid geometry
+    (length chain)) objects number)
+IsWhyNotStored uuid geometry chain objects (Refused (BadObject number reason)) =
+    IfSome objects (IsRefusedBy uuid geometry chain (recovery.BadObject number reason))
+IsWhyNotStored uuid geometry chain objects (Refused (MissingObject number)) =
+    IfSome objects (IsRefusedBy uuid geometry chain (recovery.MissingObject number))
+IsWhyNotStored uuid geometry chain objects (Refused (BaseMissing ancestor)) =
+    IfSome objects (IsRefusedBy uuid geometry chain (recovery.BaseMissing ancestor))
+IsWhyNotStored uuid geometry chain objects StoreFault = Unit {0}
+IsWhyNotStored uuid geometry chain objects DeviceFault = Unit {0}
+IsWhyNotStored uuid geometry chain objects OutOfMemory = Unit {0}
+IsWhyNotStored uuid geometry chain objects error = ⊥
 
 -- the objects are good, but the log of a device does not fit the volume, whose sectors are told
-abbrev pub IsUnfitting : (uuid : List ℕ) → Geometry → Option Objects → MountError → Type 0
-IsUnfitting uuid geometry objects (Refused (NoSlot log)) = HasGoodObjects uuid geometry objects × (log ≡ geometry.log)
-IsUnfitting uuid geometry objects error = ⊥
+abbrev pub IsUnfitting : (uuid : List ℕ) → Geometry → List Ancestor → Option Objects → MountError → Type 0
+IsUnfitting uuid geometry chain objects (Refused (NoSlot log)) = HasGoodObjects uuid geometry chain objects × (log ≡ geometry.log)
+IsUnfitting uuid geometry chain objects error = ⊥
 
 -- why a mount without the cache gives none
-abbrev pub IsWhyLost : (uuid : List ℕ) → Geometry → (epoch : ℕ) → Option Objects → MountError → Type 0
-IsWhyLost uuid geometry epoch objects (Refused (Worn value)) = IsWornStored uuid geometry epoch objects value
-IsWhyLost uuid geometry epoch objects error = IsWhyNotStored uuid geometry objects error
+abbrev pub IsWhyLost : (uuid : List ℕ) → Geometry → List Ancestor → (epoch : ℕ) → Option Objects → MountError → Type 0
+IsWhyLost uuid geometry chain epoch objects (Refused (Worn value)) = IsWornStored uuid geometry chain epoch objects value
+IsWhyLost uuid geometry chain epoch objects error = IsWhyNotStored uuid geometry chain objects error
 
 -- Why a device is refused, where the objects have this end, and no greater number than this. The tests before have passed, which
 -- are in this order: a slot is open; the commit that the device reads as is of this volume, and in this epoch; its tail is not
@@ -181,11 +196,11 @@ IsWhyNotOpened owner geometry end greatest disk OutOfMemory = Unit {0}
 IsWhyNotOpened owner geometry end greatest disk error = ⊥
 
 -- why a mount with the cache gives none: the objects are refused, or they are good and the device is refused
-abbrev pub IsWhyNotLeft : (owner : CacheOwner) → Geometry → Option Objects → DiskState → MountError → Type 0
-IsWhyNotLeft owner geometry objects disk error =
-    IsWhyNotStored owner.uuid geometry objects error
-    ⊎ (HasGoodObjects owner.uuid geometry objects
-    × ((greatest : ℕ) × (end : ℕ) × HasExtent owner.uuid geometry objects greatest end
+abbrev pub IsWhyNotLeft : (owner : CacheOwner) → Geometry → List Ancestor → Option Objects → DiskState → MountError → Type 0
+IsWhyNotLeft owner geometry chain objects disk error =
+    IsWhyNotStored owner.uuid geometry chain objects error
+    ⊎ (HasGoodObjects owner.uuid geometry chain objects
+    × ((greatest : ℕ) × (end : ℕ) × HasExtent owner.uuid geometry chain objects greatest end
     × IsWhyNotOpened owner geometry end greatest disk error))
 
 -- the error refuses what device or store have

@@ -1,6 +1,7 @@
 -- For this crate's own clauses: the steps of a mount.
 use Rattle.std.specs.Prelude.{◌≡◌, ℕ, ◌+◌, ◌-◌, ◌^◌, ◌<◌, ◌≤◌, max, Option, None, Bool, true, false, not, IfSome, Result, Ok, Err}
 use Rattle.std.specs.Prelude.{List, length}
+use Rattle.clone_chain.specs.declared.ancestor.Ancestor.{Ancestor}
 use Rattle.lsvd_base.specs.declared.entry.Entry.{Entry}
 use Rattle.lsvd_base.specs.declared.geometry.Geometry.{Geometry}
 use Rattle.lsvd_device.specs.Device.{DiskState, IsDisk, HoldsNow}
@@ -18,6 +19,7 @@ use Rattle.cache_log.specs.Rows.{AreNumbered}
 use Rattle.cache_log.specs.Log.{LogState, AreRowsOf, IsTrimmed}
 use Rattle.cache_log.specs.Opening.{AreRecordsInRange, IsOpenedLog, entry_count}
 use Rattle.cache_log.specs.Committed.{body_of, HasSameList, IsReleased, LeavesEntriesSince}
+use Rattle.stopped_volume.specs.Ancestors.{uuid_in_chain}
 use Rattle.stopped_volume.specs.Device.{CacheOwner, owner_of}
 use Rattle.object_uploads.specs.Order.{IsUploads}
 use Rattle.obj_log.specs.State.{ObjLogState}
@@ -55,8 +57,9 @@ passes_device (Err error) = not (is_device_fault error)
 
 -- the list of a volume was recovered, from a checkpoint with this number on; its objects are in order, and its table is from
 -- there
-pub record IsRecovered (uuid : List ℕ) (geometry : Geometry) (log : ObjLogState) (checkpoint : ℕ) : Type 0 where
-  pub list : IsListUpTo uuid geometry log.uploads.window.last log.uploads.queue.end log
+pub record IsRecovered (uuid : List ℕ) (geometry : Geometry) (ancestors : ℕ) (log : ObjLogState)
+    (checkpoint : ℕ) : Type 0 where
+  pub list : IsListUpTo uuid geometry ancestors log.uploads.window.last log.uploads.queue.end log
   pub order : IsUploads log.uploads
   pub places : HasPlacesInside geometry.sectors log.uploads.queue
   pub numbered : 0 < checkpoint
@@ -71,33 +74,37 @@ pub record AreLow (epoch : ℕ) (log : ObjLogState) : Type 0 where
 
 -- Where bytes are told, it is that of the objects of a store, and the checkpoint is their newest. A list whose last number is the
 -- greatest that a list can have may end before the first missing number.
-pub record IsRecoveredFrom (uuid : List ℕ) (geometry : Geometry) (objects : Objects) (log : ObjLogState) (checkpoint : ℕ) :
+pub record IsRecoveredFrom (uuid : List ℕ) (geometry : Geometry) (chain : List Ancestor) (objects : Objects) (log : ObjLogState)
+    (checkpoint : ℕ) :
     Type 0 where
   pub checkpoint_end : ℕ
-  pub newest : IsNewestWithEnd (expected_of uuid geometry) objects checkpoint checkpoint_end
-  pub landed : HaveLanded objects (expected_of uuid geometry) checkpoint log.uploads.window.last
-  pub no_longer : IsNoLonger (expected_of uuid geometry) objects log.uploads.window.last
-  pub good : AreAllGood (expected_of uuid geometry) objects checkpoint
-  pub named : AreAllNamed (expected_of uuid geometry) objects checkpoint
-  pub knows : KnowsObjects (expected_of uuid geometry) objects checkpoint log.uploads.queue
-  pub holds : KnowsHolds (expected_of uuid geometry) objects log.uploads.queue
-  pub recovered : log.uploads.window.last + 1 < 2 ^ 64 - 1 → IsRecoveredOf (expected_of uuid geometry) objects log
+  pub newest : IsNewestWithEnd (expected_of uuid geometry (length chain)) objects checkpoint checkpoint_end
+  pub landed : HaveLanded objects (expected_of uuid geometry (length chain)) checkpoint log.uploads.window.last
+  pub no_longer : IsNoLonger (expected_of uuid geometry (length chain)) (uuid_in_chain uuid chain) objects log.uploads.window.last
+  pub good : AreAllGood (expected_of uuid geometry (length chain)) objects checkpoint
+  pub named : AreAllNamed (expected_of uuid geometry (length chain)) (uuid_in_chain uuid chain) objects checkpoint
+  pub knows : KnowsObjects (expected_of uuid geometry (length chain)) objects checkpoint log.uploads.queue
+  pub holds : KnowsHolds (expected_of uuid geometry (length chain)) objects log.uploads.queue
+  pub recovered : log.uploads.window.last + 1 < 2 ^ 64 - 1
+      → IsRecoveredOf (expected_of uuid geometry (length chain)) (uuid_in_chain uuid chain) objects log
 
 -- The list for a mount without the cache was recovered, from a checkpoint on; where bytes are told, the store passes the tests of
 -- that.
-pub record RecoversAlone (Tells : Type 0) (uuid : List ℕ) (geometry : Geometry) (epoch : ℕ) (objects : Option Objects)
+pub record RecoversAlone (Tells : Type 0) (uuid : List ℕ) (geometry : Geometry) (chain : List Ancestor) (epoch : ℕ)
+    (objects : Option Objects)
     (log : ObjLogState) : Type 0 where
   pub checkpoint : ℕ
-  pub list : IsRecovered uuid geometry log checkpoint
+  pub list : IsRecovered uuid geometry (length chain) log checkpoint
   pub low : AreLow epoch log
-  pub told : Tells → IfSome objects (λ objects. IsRecoveredFrom uuid geometry objects log checkpoint)
-  pub passes : Tells → PassesStored uuid geometry epoch objects log.uploads.window.last log.uploads.queue.end
+  pub told : Tells → IfSome objects (λ objects. IsRecoveredFrom uuid geometry chain objects log checkpoint)
+  pub passes : Tells → PassesStored uuid geometry chain epoch objects log.uploads.window.last log.uploads.queue.end
 
 -- or it was not, which leaves the store so
-pub record RefusesAlone (Tells : Type 0) (uuid : List ℕ) (geometry : Geometry) (epoch : ℕ) (Leaves : Objects → Objects → Type 0)
+pub record RefusesAlone (Tells : Type 0) (uuid : List ℕ) (geometry : Geometry) (chain : List Ancestor) (epoch : ℕ)
+    (Leaves : Objects → Objects → Type 0)
     (old new : Option Objects) (error : MountError) : Type 0 where
-  pub why : Tells → IsWhyLost uuid geometry epoch old error
-  pub no_refusal : Tells → RefusesNoneStored uuid geometry old error
+  pub why : Tells → IsWhyLost uuid geometry chain epoch old error
+  pub no_refusal : Tells → RefusesNoneStored uuid geometry chain old error
   pub store : (IsFault error → ⊥) → new ≡ old
   pub some : Becomes Leaves old new
   pub no_fault : is_device_fault error ≡ false

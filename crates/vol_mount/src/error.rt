@@ -40,6 +40,9 @@ impl From<RecoverError> for MountError {
             RecoverError::MissingObject { number } => {
                 MountError::Refused(Refusal::MissingObject { number })
             }
+            RecoverError::BaseMissing { uuid } => {
+                MountError::Refused(Refusal::BaseMissing { ancestor: uuid })
+            }
             RecoverError::StoreFault => MountError::StoreFault,
             RecoverError::OutOfMemory => MountError::OutOfMemory,
         }

@@ -23,8 +23,8 @@ pub fn refuse_log<S: Store>(alloc: Global, store: &mut S, volume: StoredVolume) 
     requires names { AreNamesOf volume.uuid volume.names }
     requires listed { IfSome (S.state store.old).objects (λ objects. Lists volume.uuid objects volume.names) }
     ensures why { TellsBytes S.Receipt.state
-        → IsUnfitting volume.uuid volume.geometry (S.state store.old).objects result
-        ⊎ IsWhyNotStored volume.uuid volume.geometry (S.state store.old).objects result }
+        → IsUnfitting volume.uuid volume.geometry volume.chain (S.state store.old).objects result
+        ⊎ IsWhyNotStored volume.uuid volume.geometry volume.chain (S.state store.old).objects result }
     ensures no_fault { is_device_fault result ≡ false }
     ensures unchanged { OnlyCounts (S.state store.old) (S.state store.new) }
     ensures faults { Counts (is_store_fault_of result) (S.state store.old).faults (S.state store.new).faults }
@@ -32,6 +32,7 @@ pub fn refuse_log<S: Store>(alloc: Global, store: &mut S, volume: StoredVolume) 
     let StoredVolume {
         uuid,
         geometry,
+        chain,
         names,
         ..
     } = volume;
@@ -39,7 +40,7 @@ pub fn refuse_log<S: Store>(alloc: Global, store: &mut S, volume: StoredVolume) 
         log: Geometry::MAX_LOG,
         ..geometry
     };
-    match recover_list(alloc, store, uuid, widest, names) {
+    match recover_list(alloc, store, uuid, widest, &chain, names) {
         Ok(recovered) => {
             drop(recovered);
             MountError::Refused(Refusal::NoSlot { log: geometry.log })

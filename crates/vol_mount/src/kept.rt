@@ -69,15 +69,16 @@ pub fn mount_with_cache<D: Disk, S: Store>(
     requires size { 4096 ≤ (D.state disk).size }
     requires log { volume.geometry.log ≡ log_of (D.state disk).size }
     ensures { MountsWithCache D.state (TellsBytes S.Receipt.state) (owner_with volume.uuid volume.epoch)
-        volume.geometry (D.state disk) (S.state store.old) (S.state store.new) result }
+        volume.geometry volume.chain (D.state disk) (S.state store.old) (S.state store.new) result }
 {
     let StoredVolume {
         uuid,
         geometry,
+        chain,
         epoch,
         names,
     } = volume;
-    let recovered = match recover_list(alloc, store, uuid, geometry, names) {
+    let recovered = match recover_list(alloc, store, uuid, geometry, &chain, names) {
         Ok(recovered) => recovered,
         Err(error) => return Err((disk, error)),
     };
@@ -112,8 +113,8 @@ fn complete<D: Disk, S: Store>(
     log: &mut CacheLog<D>,
 ) -> Result<ObjLog<S::Receipt>, MountError>
     requires limits { IsTrue (is_within_limits recovered.log.batch.geometry) }
-    requires list { IsRecovered recovered.log.uploads.uuid recovered.log.batch.geometry recovered.log
-        recovered.checkpoint }
+    requires list { IsRecovered recovered.log.uploads.uuid recovered.log.batch.geometry
+        recovered.log.uploads.ancestors recovered.log recovered.checkpoint }
     requires names { HasAllNames (S.state store.old).objects recovered }
     requires opened { (commits : CommitsState)
         × IsOpenedUpTo recovered.log.batch.geometry recovered.log.uploads.queue.end commits log.old }

@@ -1,4 +1,4 @@
-ghost use Rattle.std.specs.Prelude.{◌≡◌, ◌+◌, IsTrue, IfOk, IfErr, IfSome};
+ghost use Rattle.std.specs.Prelude.{◌≡◌, ◌+◌, IsTrue, IfOk, IfErr, IfSome, length};
 ghost use Rattle.lsvd_base.specs.Limits.{is_within_limits};
 ghost use Rattle.lsvd_fault.specs.Faults.{Counts};
 ghost use Rattle.lsvd_device.specs.Device.{IsDisk};
@@ -53,8 +53,8 @@ pub fn mount_without_cache<D: Disk, S: Store>(
     requires listed { IfSome (S.state store.old).objects (λ objects. Lists volume.uuid objects volume.names) }
     requires is_disk { IsDisk (D.state disk) }
     requires log { volume.geometry.log ≡ log_of (D.state disk).size }
-    ensures { MountsWithoutCache D.state (TellsBytes S.Receipt.state) volume.uuid volume.geometry volume.epoch
-        (D.state disk) (S.state store.old) (S.state store.new) result }
+    ensures { MountsWithoutCache D.state (TellsBytes S.Receipt.state) volume.uuid volume.geometry volume.chain
+        volume.epoch (D.state disk) (S.state store.old) (S.state store.new) result }
 {
     let (uuid, epoch) = (volume.uuid, volume.epoch);
     let objects = match begin_epoch(alloc, store, volume) {
@@ -82,13 +82,14 @@ fn begin_epoch<S: Store>(
     requires names { AreNamesOf volume.uuid volume.names }
     requires listed { IfSome (S.state store.old).objects (λ objects. Lists volume.uuid objects volume.names) }
     ensures ok { IfOk result (RecoversAlone (TellsBytes S.Receipt.state) volume.uuid volume.geometry
-        volume.epoch (S.state store.old).objects) }
+        volume.chain volume.epoch (S.state store.old).objects) }
     ensures begun { IfOk result (λ log.
         Becomes (BeginsEpoch volume.uuid log.uploads.window.last (volume.epoch + 1))
         (S.state store.old).objects (S.state store.new).objects) }
     ensures err { IfErr result (RefusesAlone (TellsBytes S.Receipt.state) volume.uuid volume.geometry
-        volume.epoch (MayBeginEpoch (TellsBytes S.Receipt.state) (expected_of volume.uuid volume.geometry)
-        (volume.epoch + 1)) (S.state store.old).objects (S.state store.new).objects) }
+        volume.chain volume.epoch (MayBeginEpoch (TellsBytes S.Receipt.state)
+        (expected_of volume.uuid volume.geometry (length volume.chain)) (volume.epoch + 1))
+        (S.state store.old).objects (S.state store.new).objects) }
     ensures faults { Counts (ends_by_store result) (S.state store.old).faults (S.state store.new).faults }
 {
     let (uuid, epoch) = (volume.uuid, volume.epoch);
@@ -112,17 +113,25 @@ fn recover_alone<S: Store>(
     requires names { AreNamesOf volume.uuid volume.names }
     requires listed { IfSome (S.state store.old).objects (λ objects. Lists volume.uuid objects volume.names) }
     ensures ok { IfOk result (RecoversAlone (TellsBytes S.Receipt.state) volume.uuid volume.geometry
-        volume.epoch (S.state store.old).objects) }
+        volume.chain volume.epoch (S.state store.old).objects) }
     ensures removed { IfOk result (λ log. Becomes (RemovesAllPast volume.uuid log.uploads.window.last)
         (S.state store.old).objects (S.state store.new).objects) }
     ensures err { IfErr result (RefusesAlone (TellsBytes S.Receipt.state) volume.uuid volume.geometry
-        volume.epoch (MayRemovePast (TellsBytes S.Receipt.state) (expected_of volume.uuid volume.geometry))
+        volume.chain volume.epoch (MayRemovePast (TellsBytes S.Receipt.state)
+        (expected_of volume.uuid volume.geometry (length volume.chain)))
         (S.state store.old).objects (S.state store.new).objects) }
     ensures faults { Counts (ends_by_store result) (S.state store.old).faults (S.state store.new).faults }
 {
-    let recovered = recover_list(alloc, store, volume.uuid, volume.geometry, volume.names)?;
+    let StoredVolume {
+        uuid,
+        geometry,
+        chain,
+        epoch,
+        names,
+    } = volume;
+    let recovered = recover_list(alloc, store, uuid, geometry, &chain, names)?;
     let end = recovered.log().uploads().end();
-    let numbers = [volume.epoch, recovered.greatest_number(), end];
+    let numbers = [epoch, recovered.greatest_number(), end];
     if let Some(value) = worn_number(&numbers) {
         drop(recovered);
         return Err(MountError::Refused(Refusal::Worn { value }));

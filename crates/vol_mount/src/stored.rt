@@ -1,3 +1,4 @@
+use clone_chain::Chain;
 use lsvd_base::Geometry;
 use lsvd_objstore::Names;
 use uuid::Uuid;
@@ -9,6 +10,8 @@ pub struct StoredVolume {
     pub uuid: Uuid,
     /// Its sizes, with the log of the device that it is mounted on.
     pub geometry: Geometry,
+    /// Its ancestors.
+    pub chain: Chain,
     /// Its newest epoch.
     pub epoch: u64,
     /// The names of all that the store has of it.

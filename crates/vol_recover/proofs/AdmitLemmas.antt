@@ -8,23 +8,27 @@ use Rattle.vol_mount.specs.declared.error.MountError.{MountError}
 use Rattle.vol_mount.specs.Refusals.{IsUnfitting, IsWhyNotStored}
 use Rattle.vol_recover.specs.Admitting.{IsAdmitted, IsWhyNotAdmitted}
 use Rattle.vol_recover.specs.Describing.{SaysVolume}
+use Rattle.clone_chain.specs.declared.ancestor.Ancestor.{Ancestor}
 
-pub is_admitted : (uuid : List ℕ) (log : ℕ) (objects : Option Objects) (geometry : Geometry) (epoch : ℕ) → geometry.log ≡ log
-    → IfSome objects (SaysVolume uuid geometry epoch) → IsTrue (is_within_limits geometry)
+pub is_admitted : (uuid : List ℕ) (log : ℕ) (objects : Option Objects) (geometry : Geometry) (chain : List Ancestor)
+    (epoch : ℕ) → geometry.log ≡ log
+    → IfSome objects (SaysVolume uuid geometry chain epoch) → IsTrue (is_within_limits geometry)
     → IfSome objects (IsAdmitted uuid log)
-is_admitted uuid log None geometry epoch log_is says fits = tt
-is_admitted uuid log (Some objects) geometry epoch log_is says fits = (geometry, epoch, log_is, says, fits)
+is_admitted uuid log None geometry chain epoch log_is says fits = tt
+is_admitted uuid log (Some objects) geometry chain epoch log_is says fits = (geometry, chain, epoch, log_is, says, fits)
 
 -- the objects were judged after the volume was described, which changed nothing
-pub is_not_admitted : (uuid : List ℕ) (log : ℕ) (old described : Option Objects) (geometry : Geometry) (epoch : ℕ)
-    (error : MountError) → geometry.log ≡ log → IfSome old (SaysVolume uuid geometry epoch) → is_within_limits geometry ≡ false
-    → described ≡ old → IsUnfitting uuid geometry described error ⊎ IsWhyNotStored uuid geometry described error
+pub is_not_admitted : (uuid : List ℕ) (log : ℕ) (old described : Option Objects) (geometry : Geometry) (chain : List Ancestor)
+    (epoch : ℕ) (error : MountError) → geometry.log ≡ log → IfSome old
+    (SaysVolume uuid geometry chain epoch) → is_within_limits geometry ≡ false
+    → described ≡ old → IsUnfitting uuid geometry chain described error ⊎ IsWhyNotStored uuid geometry chain described error
     → IsWhyNotAdmitted uuid log old error
-is_not_admitted uuid log old described geometry epoch error log_is says unfit same why = inr (
+is_not_admitted uuid log old described geometry chain epoch error log_is says unfit same why = inr (
   geometry,
+  chain,
   epoch,
   log_is,
   says,
   unfit,
-  subst (λ objects. IsUnfitting uuid geometry objects error ⊎ IsWhyNotStored uuid geometry objects error) same why,
+  subst (λ objects. IsUnfitting uuid geometry chain objects error ⊎ IsWhyNotStored uuid geometry chain objects error) same why,
 )

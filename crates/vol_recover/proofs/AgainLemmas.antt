@@ -1,7 +1,8 @@
 -- What a mount leaves that failed or was stopped may be mounted again.
 use Rattle.std.proofs.Common.{◌≡◌, ℕ, ◌+◌, ◌<◌, ◌≤◌, ◌⊎◌, Bool, true, false, ◌&&◌, nat_le, None, List, [], ◌∷◌, inl, inr}
-use Rattle.std.proofs.Common.{refl, sym, ◌∙◌, ◌^◌, ap, subst, arith}
+use Rattle.std.proofs.Common.{refl, sym, ◌∙◌, ◌^◌, ap, subst, arith, length}
 use Rattle.std.proofs.lemmas.Bool.Decides.{nat_tests}
+use Rattle.clone_chain.specs.declared.ancestor.Ancestor.{Ancestor}
 use Rattle.lsvd_base.specs.declared.geometry.Geometry.{Geometry}
 use Rattle.lsvd_device.specs.Device.{DiskState}
 use Rattle.lsvd_device.specs.Medium.{Medium, MayLeave}
@@ -18,7 +19,7 @@ use Rattle.plain_disk.specs.declared.log.PlainCommit.{PlainCommit}
 use Rattle.plain_disk.specs.Log.{mounted_log, empty_from}
 use Rattle.plain_disk.specs.Cache.{PlainCache, cache_with}
 use Rattle.plain_disk.specs.Checkpoints.{landed_checkpoint}
-use Rattle.plain_disk.specs.State.{PlainState, OpensBlank, frontier_end, history_length}
+use Rattle.plain_disk.specs.State.{PlainState, OpensFirst, frontier_end, history_length}
 use Rattle.plain_disk.specs.Stops.{recovered_number, recovered_end, kept_count, found_by, mounted_from, mounted_on}
 use Rattle.plain_disk.specs.Found.{found_in, landed_to, IsFoundAgain, SealsCheckpoints}
 use Rattle.plain_disk.specs.Valid.{IsPlainVolume}
@@ -59,7 +60,7 @@ le_true a b is = grind (arith, nat_tests)
 module _ (uuid : List ℕ) (epoch next : ℕ) (plain : PlainState) (landed : Numbers) (objects : Objects)
     (has_it : HasVolumeUpTo uuid epoch plain landed objects) (log count : ℕ) (cache : PlainCache) where
   abbrev volume : Expected
-  volume = expected_of uuid plain.geometry
+  volume = expected_of uuid plain.geometry (length plain.chain)
 
   abbrev number : ℕ
   number = recovered_number landed plain
@@ -67,15 +68,17 @@ module _ (uuid : List ℕ) (epoch next : ℕ) (plain : PlainState) (landed : Num
   abbrev made : PlainState
   made = record (found_by landed count plain) { geometry = sizes_with log plain.geometry; cache = cache }
 
-  pub again_up_to : HasVolume uuid (sizes_with log plain.geometry) next objects → OpensBlank made → SealsCheckpoints made
+  pub again_up_to : HasVolume uuid (sizes_with log plain.geometry) plain.chain next objects → OpensFirst made
+      → SealsCheckpoints made
       → IsFoundAgain landed number (landed_checkpoint landed plain) made
       → ((other : ℕ) (bytes : List ℕ) → other ≤ number → IsObjectOf volume plain other bytes → IsObjectOf volume made other bytes)
       → HasVolumeUpTo uuid next made (landed_to number landed) objects
-  again_up_to described blank seals again keeps =
+  again_up_to described opens seals again keeps =
       let same : recovered_number (landed_to number landed) made ≡ number = again.number in
       record {
         described = described;
-        blank = blank;
+        opens = opens;
+        inherits = has_it.inherits;
         seals = seals;
         holds = has_it.holds;
         may = again.may;
@@ -93,13 +96,13 @@ module _ (uuid : List ℕ) (epoch next : ℕ) (plain : PlainState) (landed : Num
       }
 
 -- the volume is described with a log of any length
-described_with : (uuid : List ℕ) (geometry : Geometry) (epoch : ℕ) (objects : Objects) (log : ℕ)
-    → HasVolume uuid geometry epoch objects → HasVolume uuid (sizes_with log geometry) epoch objects
-described_with uuid geometry epoch objects log has = record {
+described_with : (uuid : List ℕ) (geometry : Geometry) (chain : List Ancestor) (epoch : ℕ) (objects : Objects) (log : ℕ)
+    → HasVolume uuid geometry chain epoch objects → HasVolume uuid (sizes_with log geometry) chain epoch objects
+described_with uuid geometry chain epoch objects log has = record {
   volume = has.volume;
   says = has.says;
   sizes = ap (sizes_with log) has.sizes;
-  alone = has.alone;
+  chain_is = has.chain_is;
   epochs = has.epochs;
   whole = has.whole;
   holds = has.holds;
@@ -109,10 +112,10 @@ described_with uuid geometry epoch objects log has = record {
 
 -- the object before the first missing number is one
 one_last : (uuid : List ℕ) (plain : PlainState) (number last : ℕ) (objects : Objects) → HasObjects uuid plain number objects
-    → IsLastLanded (expected_of uuid plain.geometry) objects last → last ≡ number
+    → IsLastLanded (expected_of uuid plain.geometry (length plain.chain)) objects last → last ≡ number
 one_last uuid plain number last objects has is =
     let stored = has.stored.stored in
-    let landed : Numbers = landed_in objects (expected_of uuid plain.geometry) in
+    let landed : Numbers = landed_in objects (expected_of uuid plain.geometry (length plain.chain)) in
     let same : last + 1 ≡ number + 1 =
     one_first_missing stored.checkpoint landed (last + 1) (number + 1) (is stored.checkpoint stored.checkpoints) stored.missing
     in
@@ -121,14 +124,15 @@ one_last uuid plain number last objects has is =
 -- so it is of what a mount finds
 last_found : (uuid : List ℕ) (epoch : ℕ) (plain : PlainState) (landed : Numbers) (last : ℕ) (objects : Objects)
     → IsPlainVolume plain → HasVolumeUpTo uuid epoch plain landed objects
-    → IsLastLanded (expected_of uuid plain.geometry) objects last → last ≡ recovered_number landed plain
+    → IsLastLanded (expected_of uuid plain.geometry (length plain.chain)) objects last → last ≡ recovered_number landed plain
 last_found uuid epoch plain landed last objects valid has is =
     one_last uuid (found_in landed plain) (recovered_number landed plain) last objects
     (volume_has_objects uuid epoch plain landed objects valid has) is
 
 may_remove_keeps : (uuid : List ℕ) (epoch : ℕ) (plain : PlainState) (landed : Numbers) (old new : Objects) → IsPlainVolume plain
     → HasVolumeUpTo uuid epoch plain landed old
-    → MayRemovePast (Unit {0}) (expected_of uuid plain.geometry) old new → HasVolumeUpTo uuid epoch plain landed new
+    → MayRemovePast (Unit {0}) (expected_of uuid plain.geometry (length plain.chain)) old new
+    → HasVolumeUpTo uuid epoch plain landed new
 may_remove_keeps uuid epoch plain landed old new valid has (inl same) =
     subst (HasVolumeUpTo uuid epoch plain landed) (sym same) has
 may_remove_keeps uuid epoch plain landed old new valid has (inr (last, is, removes)) =
@@ -188,13 +192,13 @@ module _ (owner : CacheOwner) (plain : PlainState) (found : PlainCommit) (landed
       let valid : IsPlainVolume made_with = (mounts_from_keep plain landed may.valid volume.may).0 found may.commit may.later in
       let again = (found_again plain landed finds).0 found valid in
       let log = plain.geometry.log in
-      let of_volume = expected_of owner.uuid plain.geometry in
+      let of_volume = expected_of owner.uuid plain.geometry (length plain.chain) in
       let there_again : HasVolumeUpTo owner.uuid owner.epoch made_with (landed_to last landed) new =
       again_up_to owner.uuid owner.epoch owner.epoch plain landed new volume log (kept_count landed found plain)
       (cache_with (mounted_log found (recovered_end landed plain) plain.cache.log)) volume.described
-      (mounts_keep_opening plain landed found log volume.blank).0
+      (mounts_keep_opening plain landed found log volume.opens).0
       (mounts_seal plain landed found log may.valid volume.seals).0 again
-      (λ other bytes low is. (mounts_keep_object of_volume plain landed found log other bytes may.valid volume.blank volume.may
+      (λ other bytes low is. (mounts_keep_object of_volume plain landed found log other bytes may.valid volume.opens volume.may
       low is).0) in
       let commit = (commits_are_later (frontier_end made_with) (history_length made_with) made_with.cache.log valid.log).0 in
       let low = subst (λ n. n < 2 ^ 63) (sym again.number) may.left.stored.low in
@@ -251,10 +255,11 @@ stopped_without_cache uuid log epoch plain landed old new is_uuid may (inr (last
     let end = recovered_end landed plain in
     let volume : HasVolumeUpTo uuid (epoch + 1) made (landed_to number landed) new =
     again_up_to uuid (epoch + 1) (epoch + 1) plain landed new has log end (cache_with (empty_from log end))
-    (described_with uuid plain.geometry (epoch + 1) new log has.described)
-    (mounts_keep_opening plain landed found log has.blank).1 (mounts_seal plain landed found log may.valid has.seals).1 again
-    (λ other bytes low is. (mounts_keep_object (expected_of uuid plain.geometry) plain landed found log other bytes may.valid
-    has.blank has.may low is).1) in
+    (described_with uuid plain.geometry plain.chain (epoch + 1) new log has.described)
+    (mounts_keep_opening plain landed found log has.opens).1 (mounts_seal plain landed found log may.valid has.seals).1 again
+    (λ other bytes low is. (mounts_keep_object (expected_of uuid plain.geometry
+    (length plain.chain)) plain landed found log other bytes may.valid
+    has.opens has.may low is).1) in
     inr (record {
       valid = valid;
       stored = found_is_stored uuid log (epoch + 1) made (landed_to number landed) new valid volume may.stored.limits

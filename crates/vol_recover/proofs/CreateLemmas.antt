@@ -33,7 +33,7 @@ use Rattle.vol_recover.proofs.Results.{same_objects, none_changed}
 
 -- what is expected of it, and its header
 abbrev first_expected : (uuid : List ℕ) → Geometry → Expected
-first_expected uuid geometry = expected_alone (expected_of uuid geometry) 1
+first_expected uuid geometry = expected_alone (expected_of uuid geometry 0) 1
 
 abbrev first_header : (uuid : List ℕ) → Geometry → Header
 first_header uuid geometry = object_header_of (first_expected uuid geometry) 0 0 Checkpoint

@@ -1,6 +1,7 @@
 -- For the proofs of callers: what a mount promises of whichever volume the store has.
 use Rattle.std.proofs.Common.{◌≡◌, ℕ, ◌+◌, ◌⊎◌, Bool, true, false, not, List, [], ◌∷◌, refl, sym, ap, subst, inl, inr, arith}
-use Rattle.std.specs.Prelude.{Option, Ok, Err, IsTrue}
+use Rattle.std.specs.Prelude.{Option, Ok, Err, IsTrue, length}
+use Rattle.clone_chain.specs.declared.ancestor.Ancestor.{Ancestor}
 use Rattle.lsvd_base.specs.declared.geometry.Geometry.{Geometry}
 use Rattle.lsvd_base.specs.Limits.{is_within_limits}
 use Rattle.lsvd_fault.specs.Faults.{Counts}
@@ -20,7 +21,7 @@ use Rattle.object_recovery.specs.Removal.{Removes}
 use Rattle.object_recovery.specs.Recovery.{IsPastOf, RemovesAllPast, MayRemovePast}
 use Rattle.object_recovery.proofs.RemovalLemmas.{becomes_so}
 use Rattle.super_recovery.specs.Put.{PutsEpoch}
-use Rattle.refusals.specs.declared.refusal.Refusal.TheVariants.{NoVolume, BadSuper, HasAncestors, Worn}
+use Rattle.refusals.specs.declared.refusal.Refusal.TheVariants.{NoVolume, BadSuper, BaseMissing, Worn}
 use Rattle.vol_mount.specs.declared.error.MountError.{MountError}
 use Rattle.vol_mount.specs.declared.error.MountError.TheVariants.{Refused, StoreFault, DeviceFault, OutOfMemory}
 use Rattle.vol_mount.specs.Costs.{IsEntryCount, CostsMount, CostsNewLog, FailsToFormat}
@@ -39,8 +40,8 @@ use Rattle.vol_recover.proofs.Results.{none_changed}
 -- it is the volume that was asked for, of some sizes within the limits and the log of the device, in some epoch
 abbrev pub IsOfSomeVolume : (uuid : List ℕ) → (log : ℕ) → MountedState → Type 0
 IsOfSomeVolume uuid log mounted =
-    (geometry : Geometry) × (epoch : ℕ) × (geometry.log ≡ log) × IsTrue (is_within_limits geometry)
-    × IsOfVolume (owner_with uuid epoch) geometry mounted
+    (geometry : Geometry) × (chain : List Ancestor) × (epoch : ℕ) × (geometry.log ≡ log) × IsTrue (is_within_limits geometry)
+    × IsOfVolume (owner_with uuid epoch) geometry chain mounted
 
 -- objects of a volume past some number were removed, or none, and nothing else changed
 abbrev pub RemovesSome : (uuid : List ℕ) → (old new : Objects) → Type 0
@@ -62,12 +63,12 @@ pub record IsMadeKept (Tells : Type 0) (uuid : List ℕ) (disk : DiskState) (old
     Type 0 where
   pub some_volume : IsOfSomeVolume uuid (log_of disk.size) mounted
   pub volume : Tells → OfVolume uuid (log_of disk.size) old.objects
-      (λ geometry epoch. IsOfVolume (owner_with uuid epoch) geometry mounted)
+      (λ geometry chain epoch. IsOfVolume (owner_with uuid epoch) geometry chain mounted)
   pub mounts : Tells → OfVolume uuid (log_of disk.size) old.objects
-      (λ geometry epoch. MountsLeft (owner_with uuid epoch) geometry old.objects disk mounted)
+      (λ geometry chain epoch. MountsLeft (owner_with uuid epoch) geometry chain old.objects disk mounted)
   pub removed : Becomes (RemovesAllPast uuid mounted.number) old.objects new.objects
   pub stops : Tells → OfVolume uuid (log_of disk.size) old.objects
-      (λ geometry epoch. KeepsLeft (owner_with uuid epoch) geometry old.objects disk (disk_of mounted))
+      (λ geometry chain epoch. KeepsLeft (owner_with uuid epoch) geometry chain old.objects disk (disk_of mounted))
   pub costs : CostsMount (log_of disk.size) true disk (disk_of mounted)
   pub synced : HoldsNow IsSynced (disk_of mounted).moments
   pub number : NumbersNextCommit (log_of disk.size) disk mounted
@@ -77,18 +78,19 @@ pub record IsMadeKept (Tells : Type 0) (uuid : List ℕ) (disk : DiskState) (old
 pub record IsNotKept (Tells : Type 0) (uuid : List ℕ) (disk left : DiskState) (old new : StoreState) (error : MountError) :
     Type 0 where
   pub why : Tells → IsWhyOf uuid (log_of disk.size) old.objects
-      (λ geometry epoch. IsWhyNotLeft (owner_with uuid epoch) geometry old.objects disk) error
+      (λ geometry chain epoch. IsWhyNotLeft (owner_with uuid epoch) geometry chain old.objects disk) error
   pub why_volume : Tells → OfVolume uuid (log_of disk.size) old.objects
-      (λ geometry epoch. IsWhyFor uuid old.objects (λ g e. IsWhyNotLeft (owner_with uuid e) g old.objects disk) geometry epoch
+      (λ geometry chain epoch. IsWhyFor uuid old.objects (λ g c e. IsWhyNotLeft
+      (owner_with uuid e) g c old.objects disk) geometry chain epoch
       error)
   pub no_refusal : Tells → OfVolume uuid (log_of disk.size) old.objects
-      (λ geometry epoch. RefusesNoneLeft (owner_with uuid epoch) geometry old.objects disk error)
+      (λ geometry chain epoch. RefusesNoneLeft (owner_with uuid epoch) geometry chain old.objects disk error)
   pub store : (IsFault error → ⊥) → new.objects ≡ old.objects
   pub left_is : Tells → OfVolume uuid (log_of disk.size) old.objects
-      (λ geometry epoch. Becomes (MayRemovePast Tells (expected_of uuid geometry)) old.objects new.objects)
+      (λ geometry chain epoch. Becomes (MayRemovePast Tells (expected_of uuid geometry (length chain))) old.objects new.objects)
   pub some : Becomes (RemovesSome uuid) old.objects new.objects
   pub stops : Tells → OfVolume uuid (log_of disk.size) old.objects
-      (λ geometry epoch. KeepsLeft (owner_with uuid epoch) geometry old.objects disk left)
+      (λ geometry chain epoch. KeepsLeft (owner_with uuid epoch) geometry chain old.objects disk left)
   pub costs : CostsMount (log_of disk.size) (not (is_device_fault error)) disk left
   pub faults : Counts (is_store_fault_of error) old.faults new.faults
   pub is_disk : IsDisk left
@@ -98,11 +100,11 @@ pub record IsMadeLost (Tells : Type 0) (uuid : List ℕ) (disk : DiskState) (old
     Type 0 where
   pub some_volume : IsOfSomeVolume uuid (log_of disk.size) mounted
   pub volume : Tells → OfVolume uuid (log_of disk.size) old.objects
-      (λ geometry epoch. IsOfVolume (owner_with uuid (epoch + 1)) geometry mounted)
+      (λ geometry chain epoch. IsOfVolume (owner_with uuid (epoch + 1)) geometry chain mounted)
   pub mounts : Tells → OfVolume uuid (log_of disk.size) old.objects
-      (λ geometry epoch. MountsStored uuid geometry old.objects mounted)
+      (λ geometry chain epoch. MountsStored uuid geometry chain old.objects mounted)
   pub begun : Tells → OfVolume uuid (log_of disk.size) old.objects
-      (λ geometry epoch. Becomes (BeginsEpoch uuid mounted.number (epoch + 1)) old.objects new.objects)
+      (λ geometry chain epoch. Becomes (BeginsEpoch uuid mounted.number (epoch + 1)) old.objects new.objects)
   pub some : Becomes (RemovesAndBegins uuid) old.objects new.objects
   pub synced : HoldsNow IsSynced (disk_of mounted).moments
   pub number : mounted.volume.volume.log.commits.number ≡ 0
@@ -113,14 +115,15 @@ pub record IsMadeLost (Tells : Type 0) (uuid : List ℕ) (disk : DiskState) (old
 pub record IsNotLost (Tells : Type 0) (uuid : List ℕ) (disk left : DiskState) (old new : StoreState) (error : MountError) :
     Type 0 where
   pub why : Tells → IsWhyOf uuid (log_of disk.size) old.objects
-      (λ geometry epoch. IsWhyLost uuid geometry epoch old.objects) error
+      (λ geometry chain epoch. IsWhyLost uuid geometry chain epoch old.objects) error
   pub why_volume : Tells → OfVolume uuid (log_of disk.size) old.objects
-      (λ geometry epoch. IsWhyFor uuid old.objects (λ g e. IsWhyLost uuid g e old.objects) geometry epoch error)
+      (λ geometry chain epoch. IsWhyFor uuid old.objects (λ g c e. IsWhyLost uuid g c e old.objects) geometry chain epoch error)
   pub no_refusal : Tells → OfVolume uuid (log_of disk.size) old.objects
-      (λ geometry epoch. RefusesNoneStored uuid geometry old.objects error)
+      (λ geometry chain epoch. RefusesNoneStored uuid geometry chain old.objects error)
   pub store : (IsFault error → ⊥) → new.objects ≡ old.objects
   pub left_is : Tells → OfVolume uuid (log_of disk.size) old.objects
-      (λ geometry epoch. Becomes (MayBeginEpoch Tells (expected_of uuid geometry) (epoch + 1)) old.objects new.objects)
+      (λ geometry chain epoch. Becomes (MayBeginEpoch Tells (expected_of uuid geometry (length chain))
+      (epoch + 1)) old.objects new.objects)
   pub some : Becomes (RemovesAndBegins uuid) old.objects new.objects
   pub costs : FailsToFormatIn uuid (is_device_fault error) disk left
   pub faults : Counts (is_store_fault_of error) old.faults new.faults
@@ -128,11 +131,12 @@ pub record IsNotLost (Tells : Type 0) (uuid : List ℕ) (disk left : DiskState) 
 
 -- ---- whichever volume the store has
 
-of_volume : (uuid : List ℕ) (log : ℕ) (objects : Option Objects) (geometry : Geometry) (epoch : ℕ) (P : Geometry → ℕ → Type 0)
-    → IsTheVolume uuid log objects geometry epoch → P geometry epoch → OfVolume uuid log objects P
-of_volume uuid log objects geometry epoch P the so g e log_is has =
-    let same = the g e log_is has in
-    subst (P g) same.1 (subst (λ g. P g epoch) same.0 so)
+of_volume : (uuid : List ℕ) (log : ℕ) (objects : Option Objects) (geometry : Geometry) (chain : List Ancestor) (epoch : ℕ)
+    (P : Geometry → List Ancestor → ℕ → Type 0)
+    → IsTheVolume uuid log objects geometry chain epoch → P geometry chain epoch → OfVolume uuid log objects P
+of_volume uuid log objects geometry chain epoch P the so g c e log_is has =
+    let same = the g c e log_is has in
+    subst (P g c) same.2 (subst (λ c. P g c epoch) same.1 (subst (λ g. P g chain epoch) same.0 so))
 
 -- ---- the store
 
@@ -183,29 +187,30 @@ costs_nothing log error disk none =
 -- ---- errors that come before
 
 -- a volume that the store has is not refused as a whole: that ended by a fault
-why_stored : (error : MountError) (uuid : List ℕ) (geometry : Geometry) (objects : Option Objects)
-    → IsWhyNotDescribed uuid objects error → refuses error ≡ false → IsWhyNotStored uuid geometry objects error
-why_stored (Refused NoVolume) uuid geometry objects why not = (let none : ⊥ = cc in absurd none)
-why_stored (Refused (BadSuper reason)) uuid geometry objects why not = (let none : ⊥ = cc in absurd none)
-why_stored (Refused (HasAncestors count)) uuid geometry objects why not = (let none : ⊥ = cc in absurd none)
-why_stored (Refused refusal) uuid geometry objects why not = absurd why
-why_stored StoreFault uuid geometry objects why not = tt
-why_stored DeviceFault uuid geometry objects why not = absurd why
-why_stored OutOfMemory uuid geometry objects why not = tt
+why_stored : (error : MountError) (uuid : List ℕ) (geometry : Geometry) (chain : List Ancestor) (objects : Option Objects)
+    → IsWhyNotDescribed uuid objects error → refuses error ≡ false → IsWhyNotStored uuid geometry chain objects error
+why_stored (Refused NoVolume) uuid geometry chain objects why not = (let none : ⊥ = cc in absurd none)
+why_stored (Refused (BadSuper reason)) uuid geometry chain objects why not = (let none : ⊥ = cc in absurd none)
+why_stored (Refused (BaseMissing ancestor)) uuid geometry chain objects why not = (let none : ⊥ = cc in absurd none)
+why_stored (Refused refusal) uuid geometry chain objects why not = absurd why
+why_stored StoreFault uuid geometry chain objects why not = tt
+why_stored DeviceFault uuid geometry chain objects why not = absurd why
+why_stored OutOfMemory uuid geometry chain objects why not = tt
 
 -- why the objects are refused is why a mount without the cache gives none
-why_lost : (error : MountError) (uuid : List ℕ) (geometry : Geometry) (epoch : ℕ) (objects : Option Objects)
-    → IsWhyNotStored uuid geometry objects error → IsWhyLost uuid geometry epoch objects error
-why_lost (Refused (Worn value)) uuid geometry epoch objects why = absurd why
-why_lost error uuid geometry epoch objects why = why
+why_lost : (error : MountError) (uuid : List ℕ) (geometry : Geometry) (chain : List Ancestor) (epoch : ℕ)
+    (objects : Option Objects)
+    → IsWhyNotStored uuid geometry chain objects error → IsWhyLost uuid geometry chain epoch objects error
+why_lost (Refused (Worn value)) uuid geometry chain epoch objects why = absurd why
+why_lost error uuid geometry chain epoch objects why = why
 
 not_both : (b : Bool) → b ≡ false → b ≡ true → ⊥
 not_both b is_false is_true = cc
 
 -- a log that does not fit a volume fits no plain volume with its sizes
-fits_none : (uuid : List ℕ) (geometry : Geometry) (objects : Option Objects) (error : MountError)
-    → is_within_limits geometry ≡ false → RefusesNoneStored uuid geometry objects error
-fits_none uuid geometry objects error unfit plain number stored =
+fits_none : (uuid : List ℕ) (geometry : Geometry) (chain : List Ancestor) (objects : Option Objects) (error : MountError)
+    → is_within_limits geometry ≡ false → RefusesNoneStored uuid geometry chain objects error
+fits_none uuid geometry chain objects error unfit plain number stored =
     absurd (not_both (is_within_limits geometry) unfit stored.limits)
 
 module _ {D : Type 0} (state : D → DiskState) (Tells : Type 0) (uuid : List ℕ) (disk : DiskState) (old new : StoreState) where
@@ -218,9 +223,10 @@ module _ {D : Type 0} (state : D → DiskState) (Tells : Type 0) (uuid : List �
   -- ---- device and store are as they were
 
   module _ (left : DiskState) (error : MountError) (all : LeavesAll disk left old new error) where
-    keeps_same : (geometry : Geometry) (epoch : ℕ) → KeepsLeft (owner_with uuid epoch) geometry objects disk left
-    keeps_same geometry epoch =
-        subst (λ d. KeepsLeft (owner_with uuid epoch) geometry objects disk d) (sym all.device)
+    keeps_same : (geometry : Geometry) (chain : List Ancestor) (epoch : ℕ)
+        → KeepsLeft (owner_with uuid epoch) geometry chain objects disk left
+    keeps_same geometry chain epoch =
+        subst (λ d. KeepsLeft (owner_with uuid epoch) geometry chain objects disk d) (sym all.device)
         (λ plain found number had synced. record { since = []; moments = refl; each = tt })
 
     costs_none : CostsMount log (not (is_device_fault error)) disk left
@@ -251,13 +257,15 @@ module _ {D : Type 0} (state : D → DiskState) (Tells : Type 0) (uuid : List �
     not_kept_described : IsNotDescribed Tells uuid log objects error → IsNotKept Tells uuid disk left old new error
     not_kept_described none = record {
       why = λ tells. inl (none.why tells);
-      why_volume = λ tells geometry epoch log_is has.
-          inr (inl (why_stored error uuid geometry objects (none.why tells) (none.no_refusal tells geometry epoch log_is has)));
-      no_refusal = λ tells geometry epoch log_is has plain found number had. none.no_refusal tells geometry epoch log_is has;
+      why_volume = λ tells geometry chain epoch log_is has.
+          inr (inl (why_stored error uuid geometry chain objects (none.why tells)
+          (none.no_refusal tells geometry chain epoch log_is has)));
+      no_refusal = λ tells geometry chain epoch log_is has plain found number had.
+          none.no_refusal tells geometry chain epoch log_is has;
       store = λ no. all.objects;
-      left_is = λ tells geometry epoch log_is has. left_all (expected_of uuid geometry);
+      left_is = λ tells geometry chain epoch log_is has. left_all (expected_of uuid geometry (length chain));
       some = removed_none;
-      stops = λ tells geometry epoch log_is has. keeps_same geometry epoch;
+      stops = λ tells geometry chain epoch log_is has. keeps_same geometry chain epoch;
       costs = costs_none;
       faults = all.faults;
       is_disk = all.is_disk;
@@ -266,13 +274,15 @@ module _ {D : Type 0} (state : D → DiskState) (Tells : Type 0) (uuid : List �
     not_lost_described : IsNotDescribed Tells uuid log objects error → IsNotLost Tells uuid disk left old new error
     not_lost_described none = record {
       why = λ tells. inl (none.why tells);
-      why_volume = λ tells geometry epoch log_is has.
+      why_volume = λ tells geometry chain epoch log_is has.
           inr
-          (why_lost error uuid geometry epoch objects
-          (why_stored error uuid geometry objects (none.why tells) (none.no_refusal tells geometry epoch log_is has)));
-      no_refusal = λ tells geometry epoch log_is has plain number had. none.no_refusal tells geometry epoch log_is has;
+          (why_lost error uuid geometry chain epoch objects
+          (why_stored error uuid geometry chain objects (none.why tells)
+          (none.no_refusal tells geometry chain epoch log_is has)));
+      no_refusal = λ tells geometry chain epoch log_is has plain number had.
+          none.no_refusal tells geometry chain epoch log_is has;
       store = λ no. all.objects;
-      left_is = λ tells geometry epoch log_is has. begun_all (expected_of uuid geometry) (epoch + 1);
+      left_is = λ tells geometry chain epoch log_is has. begun_all (expected_of uuid geometry (length chain)) (epoch + 1);
       some = begun_none;
       costs = formats_none;
       faults = all.faults;
@@ -280,32 +290,34 @@ module _ {D : Type 0} (state : D → DiskState) (Tells : Type 0) (uuid : List �
     }
 
     -- the log of the device does not fit the one that is described
-    module _ (geometry : Geometry) (epoch : ℕ) (is : IsDescribed Tells uuid log objects geometry epoch)
-        (unfit : is_within_limits geometry ≡ false) (why : IsNotFitted Tells uuid geometry objects error) where
-      of_unfit : (P : Geometry → ℕ → Type 0) → Tells → P geometry epoch → OfVolume uuid log objects P
-      of_unfit P tells so = of_volume uuid log objects geometry epoch P (is.same tells) so
+    module _ (geometry : Geometry) (chain : List Ancestor) (epoch : ℕ)
+        (is : IsDescribed Tells uuid log objects geometry chain epoch)
+        (unfit : is_within_limits geometry ≡ false) (why : IsNotFitted Tells uuid geometry chain objects error) where
+      of_unfit : (P : Geometry → List Ancestor → ℕ → Type 0) → Tells → P geometry chain epoch → OfVolume uuid log objects P
+      of_unfit P tells so = of_volume uuid log objects geometry chain epoch P (is.same tells) so
 
-      why_for : (Why : Geometry → ℕ → MountError → Type 0)
-          → (IsWhyNotStored uuid geometry objects error → Why geometry epoch error)
-          → IsUnfitting uuid geometry objects error ⊎ IsWhyNotStored uuid geometry objects error
-          → IsWhyFor uuid objects Why geometry epoch error
+      why_for : (Why : Geometry → List Ancestor → ℕ → MountError → Type 0)
+          → (IsWhyNotStored uuid geometry chain objects error → Why geometry chain epoch error)
+          → IsUnfitting uuid geometry chain objects error ⊎ IsWhyNotStored uuid geometry chain objects error
+          → IsWhyFor uuid objects Why geometry chain epoch error
       why_for Why follows (inl no_fit) = inl (unfit, no_fit)
       why_for Why follows (inr stored) = inr (follows stored)
 
       not_kept_fitted : IsNotKept Tells uuid disk left old new error
       not_kept_fitted =
-          let Why : Geometry → ℕ → MountError → Type 0 = λ g e. IsWhyNotLeft (owner_with uuid e) g objects disk in
+          let Why : Geometry → List Ancestor → ℕ → MountError
+          → Type 0 = λ g c e. IsWhyNotLeft (owner_with uuid e) g c objects disk in
           let because = λ (tells : Tells). why_for Why (λ stored. inl stored) (why tells) in
           record {
-            why = λ tells. inr (geometry, epoch, is.log_is, is.says tells, because tells);
-            why_volume = λ tells. of_unfit (λ g e. IsWhyFor uuid objects Why g e error) tells (because tells);
+            why = λ tells. inr (geometry, chain, epoch, is.log_is, is.says tells, because tells);
+            why_volume = λ tells. of_unfit (λ g c e. IsWhyFor uuid objects Why g c e error) tells (because tells);
             no_refusal = λ tells.
-                of_unfit (λ g e. RefusesNoneLeft (owner_with uuid e) g objects disk error) tells
-                (λ plain found number had. fits_none uuid geometry objects error unfit plain number had.stored);
+                of_unfit (λ g c e. RefusesNoneLeft (owner_with uuid e) g c objects disk error) tells
+                (λ plain found number had. fits_none uuid geometry chain objects error unfit plain number had.stored);
             store = λ no. all.objects;
-            left_is = λ tells g e log_is has. left_all (expected_of uuid g);
+            left_is = λ tells g c e log_is has. left_all (expected_of uuid g (length c));
             some = removed_none;
-            stops = λ tells g e log_is has. keeps_same g e;
+            stops = λ tells g c e log_is has. keeps_same g c e;
             costs = costs_none;
             faults = all.faults;
             is_disk = all.is_disk;
@@ -313,15 +325,16 @@ module _ {D : Type 0} (state : D → DiskState) (Tells : Type 0) (uuid : List �
 
       not_lost_fitted : IsNotLost Tells uuid disk left old new error
       not_lost_fitted =
-          let Why : Geometry → ℕ → MountError → Type 0 = λ g e. IsWhyLost uuid g e objects in
-          let because = λ (tells : Tells). why_for Why (why_lost error uuid geometry epoch objects) (why tells) in
+          let Why : Geometry → List Ancestor → ℕ → MountError → Type 0 = λ g c e. IsWhyLost uuid g c e objects in
+          let because = λ (tells : Tells). why_for Why (why_lost error uuid geometry chain epoch objects) (why tells) in
           record {
-            why = λ tells. inr (geometry, epoch, is.log_is, is.says tells, because tells);
-            why_volume = λ tells. of_unfit (λ g e. IsWhyFor uuid objects Why g e error) tells (because tells);
+            why = λ tells. inr (geometry, chain, epoch, is.log_is, is.says tells, because tells);
+            why_volume = λ tells. of_unfit (λ g c e. IsWhyFor uuid objects Why g c e error) tells (because tells);
             no_refusal = λ tells.
-                of_unfit (λ g e. RefusesNoneStored uuid g objects error) tells (fits_none uuid geometry objects error unfit);
+                of_unfit (λ g c e. RefusesNoneStored uuid g c objects error) tells
+                (fits_none uuid geometry chain objects error unfit);
             store = λ no. all.objects;
-            left_is = λ tells g e log_is has. begun_all (expected_of uuid g) (e + 1);
+            left_is = λ tells g c e log_is has. begun_all (expected_of uuid g (length c)) (e + 1);
             some = begun_none;
             costs = formats_none;
             faults = all.faults;
@@ -330,23 +343,24 @@ module _ {D : Type 0} (state : D → DiskState) (Tells : Type 0) (uuid : List �
 
   -- ---- the volume that is described was mounted, or not
 
-  module _ (geometry : Geometry) (epoch : ℕ) (is : IsDescribed Tells uuid log objects geometry epoch)
+  module _ (geometry : Geometry) (chain : List Ancestor) (epoch : ℕ)
+      (is : IsDescribed Tells uuid log objects geometry chain epoch)
       (limits : IsTrue (is_within_limits geometry)) where
-    of_fit : (P : Geometry → ℕ → Type 0) → Tells → P geometry epoch → OfVolume uuid log objects P
-    of_fit P tells so = of_volume uuid log objects geometry epoch P (is.same tells) so
+    of_fit : (P : Geometry → List Ancestor → ℕ → Type 0) → Tells → P geometry chain epoch → OfVolume uuid log objects P
+    of_fit P tells so = of_volume uuid log objects geometry chain epoch P (is.same tells) so
 
     made_with_cache : (mounted : MountedState)
-        → MountsWithCache state Tells (owner_with uuid epoch) geometry disk old new (Ok mounted)
+        → MountsWithCache state Tells (owner_with uuid epoch) geometry chain disk old new (Ok mounted)
         → IsMadeKept Tells uuid disk old new mounted
     made_with_cache mounted mounts =
         let made = mounts.made in
         record {
-          some_volume = (geometry, epoch, is.log_is, limits, made.volume);
-          volume = λ tells. of_fit (λ g e. IsOfVolume (owner_with uuid e) g mounted) tells made.volume;
-          mounts = λ tells. of_fit (λ g e. MountsLeft (owner_with uuid e) g objects disk mounted) tells (made.mounts tells);
+          some_volume = (geometry, chain, epoch, is.log_is, limits, made.volume);
+          volume = λ tells. of_fit (λ g c e. IsOfVolume (owner_with uuid e) g c mounted) tells made.volume;
+          mounts = λ tells. of_fit (λ g c e. MountsLeft (owner_with uuid e) g c objects disk mounted) tells (made.mounts tells);
           removed = made.removed;
           stops = λ tells.
-              of_fit (λ g e. KeepsLeft (owner_with uuid e) g objects disk (disk_of mounted)) tells (made.stops tells);
+              of_fit (λ g c e. KeepsLeft (owner_with uuid e) g c objects disk (disk_of mounted)) tells (made.stops tells);
           costs = subst (λ n. CostsMount n true disk (disk_of mounted)) is.log_is made.costs;
           synced = made.synced;
           number = subst (λ n. NumbersNextCommit n disk mounted) is.log_is made.number;
@@ -354,39 +368,41 @@ module _ {D : Type 0} (state : D → DiskState) (Tells : Type 0) (uuid : List �
         }
 
     none_with_cache : (left : D) (error : MountError)
-        → MountsWithCache state Tells (owner_with uuid epoch) geometry disk old new (Err (left, error))
+        → MountsWithCache state Tells (owner_with uuid epoch) geometry chain disk old new (Err (left, error))
         → IsNotKept Tells uuid disk (state left) old new error
     none_with_cache left error mounts =
         let none = mounts.none in
-        let Why : Geometry → ℕ → MountError → Type 0 = λ g e. IsWhyNotLeft (owner_with uuid e) g objects disk in
-        let volume = expected_of uuid geometry in
+        let Why : Geometry → List Ancestor → ℕ → MountError
+        → Type 0 = λ g c e. IsWhyNotLeft (owner_with uuid e) g c objects disk in
+        let volume = expected_of uuid geometry (length chain) in
         record {
-          why = λ tells. inr (geometry, epoch, is.log_is, is.says tells, inr (none.why tells));
-          why_volume = λ tells. of_fit (λ g e. IsWhyFor uuid objects Why g e error) tells (inr (none.why tells));
+          why = λ tells. inr (geometry, chain, epoch, is.log_is, is.says tells, inr (none.why tells));
+          why_volume = λ tells. of_fit (λ g c e. IsWhyFor uuid objects Why g c e error) tells (inr (none.why tells));
           no_refusal = λ tells.
-              of_fit (λ g e. RefusesNoneLeft (owner_with uuid e) g objects disk error) tells (none.no_refusal tells);
+              of_fit (λ g c e. RefusesNoneLeft (owner_with uuid e) g c objects disk error) tells (none.no_refusal tells);
           store = none.store;
           left_is = λ tells.
-              of_fit (λ g e. Becomes (MayRemovePast Tells (expected_of uuid g)) objects new.objects) tells none.some;
+              of_fit (λ g c e. Becomes (MayRemovePast Tells (expected_of uuid g (length c))) objects new.objects) tells none.some;
           some =
               becomes_so (MayRemovePast Tells volume) (RemovesSome uuid) objects new.objects (removes_some Tells volume)
               none.some;
-          stops = λ tells. of_fit (λ g e. KeepsLeft (owner_with uuid e) g objects disk (state left)) tells (none.stops tells);
+          stops = λ tells. of_fit (λ g c e. KeepsLeft (owner_with uuid e) g c objects disk (state left)) tells (none.stops tells);
           costs = subst (λ n. CostsMount n (not (is_device_fault error)) disk (state left)) is.log_is none.costs;
           faults = mounts.faults;
           is_disk = none.is_disk;
         }
 
-    made_without_cache : (mounted : MountedState) → MountsWithoutCache state Tells uuid geometry epoch disk old new (Ok mounted)
+    made_without_cache : (mounted : MountedState)
+        → MountsWithoutCache state Tells uuid geometry chain epoch disk old new (Ok mounted)
         → IsMadeLost Tells uuid disk old new mounted
     made_without_cache mounted mounts =
         let made = mounts.made in
         record {
-          some_volume = (geometry, epoch + 1, is.log_is, limits, made.volume);
-          volume = λ tells. of_fit (λ g e. IsOfVolume (owner_with uuid (e + 1)) g mounted) tells made.volume;
-          mounts = λ tells. of_fit (λ g e. MountsStored uuid g objects mounted) tells (made.mounts tells);
+          some_volume = (geometry, chain, epoch + 1, is.log_is, limits, made.volume);
+          volume = λ tells. of_fit (λ g c e. IsOfVolume (owner_with uuid (e + 1)) g c mounted) tells made.volume;
+          mounts = λ tells. of_fit (λ g c e. MountsStored uuid g c objects mounted) tells (made.mounts tells);
           begun = λ tells.
-              of_fit (λ g e. Becomes (BeginsEpoch uuid mounted.number (e + 1)) objects new.objects) tells made.begun;
+              of_fit (λ g c e. Becomes (BeginsEpoch uuid mounted.number (e + 1)) objects new.objects) tells made.begun;
           some =
               becomes_so (BeginsEpoch uuid mounted.number (epoch + 1)) (RemovesAndBegins uuid) objects new.objects
               (begins_some uuid mounted.number (epoch + 1)) made.begun;
@@ -397,19 +413,20 @@ module _ {D : Type 0} (state : D → DiskState) (Tells : Type 0) (uuid : List �
         }
 
     none_without_cache : (left : D) (error : MountError)
-        → MountsWithoutCache state Tells uuid geometry epoch disk old new (Err (left, error))
+        → MountsWithoutCache state Tells uuid geometry chain epoch disk old new (Err (left, error))
         → IsNotLost Tells uuid disk (state left) old new error
     none_without_cache left error mounts =
         let none = mounts.none in
-        let Why : Geometry → ℕ → MountError → Type 0 = λ g e. IsWhyLost uuid g e objects in
-        let volume = expected_of uuid geometry in
+        let Why : Geometry → List Ancestor → ℕ → MountError → Type 0 = λ g c e. IsWhyLost uuid g c e objects in
+        let volume = expected_of uuid geometry (length chain) in
         record {
-          why = λ tells. inr (geometry, epoch, is.log_is, is.says tells, inr (none.why tells));
-          why_volume = λ tells. of_fit (λ g e. IsWhyFor uuid objects Why g e error) tells (inr (none.why tells));
-          no_refusal = λ tells. of_fit (λ g e. RefusesNoneStored uuid g objects error) tells (none.no_refusal tells);
+          why = λ tells. inr (geometry, chain, epoch, is.log_is, is.says tells, inr (none.why tells));
+          why_volume = λ tells. of_fit (λ g c e. IsWhyFor uuid objects Why g c e error) tells (inr (none.why tells));
+          no_refusal = λ tells. of_fit (λ g c e. RefusesNoneStored uuid g c objects error) tells (none.no_refusal tells);
           store = none.store;
           left_is = λ tells.
-              of_fit (λ g e. Becomes (MayBeginEpoch Tells (expected_of uuid g) (e + 1)) objects new.objects) tells none.some;
+              of_fit (λ g c e. Becomes (MayBeginEpoch Tells (expected_of uuid g (length c))
+              (e + 1)) objects new.objects) tells none.some;
           some =
               becomes_so (MayBeginEpoch Tells volume (epoch + 1)) (RemovesAndBegins uuid) objects new.objects
               (may_begin_some Tells volume (epoch + 1)) none.some;
@@ -422,11 +439,12 @@ module _ {D : Type 0} (state : D → DiskState) (Tells : Type 0) (uuid : List �
 
   made_kept_by : (mounted : MountedState)
       → IsMounting state Tells uuid disk old new (Ok mounted)
-      (λ geometry epoch. MountsWithCache state Tells (owner_with uuid epoch) geometry disk old new (Ok mounted))
+      (λ geometry chain epoch. MountsWithCache state Tells (owner_with uuid epoch) geometry chain disk old new (Ok mounted))
       → IsMadeKept Tells uuid disk old new mounted
   made_kept_by mounted (inl before) = absurd before
-  made_kept_by mounted (inr (geometry, epoch, is, inl before)) = absurd before.1
-  made_kept_by mounted (inr (geometry, epoch, is, inr fits)) = made_with_cache geometry epoch is fits.0 mounted fits.1
+  made_kept_by mounted (inr (geometry, chain, epoch, is, inl before)) = absurd before.1
+  made_kept_by mounted (inr
+      (geometry, chain, epoch, is, inr fits)) = made_with_cache geometry chain epoch is fits.0 mounted fits.1
 
   pub made_kept : (mounted : MountedState) → MountsKept state Tells uuid disk old new (Ok mounted)
       → IsMadeKept Tells uuid disk old new mounted
@@ -434,12 +452,14 @@ module _ {D : Type 0} (state : D → DiskState) (Tells : Type 0) (uuid : List �
 
   not_kept_by : (left : D) (error : MountError)
       → IsMounting state Tells uuid disk old new (Err (left, error))
-      (λ geometry epoch. MountsWithCache state Tells (owner_with uuid epoch) geometry disk old new (Err (left, error)))
+      (λ geometry chain epoch. MountsWithCache state Tells (owner_with uuid epoch) geometry chain disk old new (Err
+      (left, error)))
       → IsNotKept Tells uuid disk (state left) old new error
   not_kept_by left error (inl before) = not_kept_described (state left) error before.1 before.0
-  not_kept_by left error (inr (geometry, epoch, is, inl before)) =
-      not_kept_fitted (state left) error before.1.1 geometry epoch is before.0 before.1.0
-  not_kept_by left error (inr (geometry, epoch, is, inr fits)) = none_with_cache geometry epoch is fits.0 left error fits.1
+  not_kept_by left error (inr (geometry, chain, epoch, is, inl before)) =
+      not_kept_fitted (state left) error before.1.1 geometry chain epoch is before.0 before.1.0
+  not_kept_by left error (inr
+      (geometry, chain, epoch, is, inr fits)) = none_with_cache geometry chain epoch is fits.0 left error fits.1
 
   pub not_kept : (left : D) (error : MountError) → MountsKept state Tells uuid disk old new (Err (left, error))
       → IsNotKept Tells uuid disk (state left) old new error
@@ -447,11 +467,12 @@ module _ {D : Type 0} (state : D → DiskState) (Tells : Type 0) (uuid : List �
 
   made_lost_by : (mounted : MountedState)
       → IsMounting state Tells uuid disk old new (Ok mounted)
-      (λ geometry epoch. MountsWithoutCache state Tells uuid geometry epoch disk old new (Ok mounted))
+      (λ geometry chain epoch. MountsWithoutCache state Tells uuid geometry chain epoch disk old new (Ok mounted))
       → IsMadeLost Tells uuid disk old new mounted
   made_lost_by mounted (inl before) = absurd before
-  made_lost_by mounted (inr (geometry, epoch, is, inl before)) = absurd before.1
-  made_lost_by mounted (inr (geometry, epoch, is, inr fits)) = made_without_cache geometry epoch is fits.0 mounted fits.1
+  made_lost_by mounted (inr (geometry, chain, epoch, is, inl before)) = absurd before.1
+  made_lost_by mounted (inr
+      (geometry, chain, epoch, is, inr fits)) = made_without_cache geometry chain epoch is fits.0 mounted fits.1
 
   pub made_lost : (mounted : MountedState) → MountsLost state Tells uuid disk old new (Ok mounted)
       → IsMadeLost Tells uuid disk old new mounted
@@ -459,12 +480,13 @@ module _ {D : Type 0} (state : D → DiskState) (Tells : Type 0) (uuid : List �
 
   not_lost_by : (left : D) (error : MountError)
       → IsMounting state Tells uuid disk old new (Err (left, error))
-      (λ geometry epoch. MountsWithoutCache state Tells uuid geometry epoch disk old new (Err (left, error)))
+      (λ geometry chain epoch. MountsWithoutCache state Tells uuid geometry chain epoch disk old new (Err (left, error)))
       → IsNotLost Tells uuid disk (state left) old new error
   not_lost_by left error (inl before) = not_lost_described (state left) error before.1 before.0
-  not_lost_by left error (inr (geometry, epoch, is, inl before)) =
-      not_lost_fitted (state left) error before.1.1 geometry epoch is before.0 before.1.0
-  not_lost_by left error (inr (geometry, epoch, is, inr fits)) = none_without_cache geometry epoch is fits.0 left error fits.1
+  not_lost_by left error (inr (geometry, chain, epoch, is, inl before)) =
+      not_lost_fitted (state left) error before.1.1 geometry chain epoch is before.0 before.1.0
+  not_lost_by left error (inr
+      (geometry, chain, epoch, is, inr fits)) = none_without_cache geometry chain epoch is fits.0 left error fits.1
 
   pub not_lost : (left : D) (error : MountError) → MountsLost state Tells uuid disk old new (Err (left, error))
       → IsNotLost Tells uuid disk (state left) old new error

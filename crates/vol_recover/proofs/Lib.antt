@@ -2,6 +2,7 @@ pub mod Results
 pub mod ForCallers
 pub mod CreateLemmas
 pub mod CreationLemmas
+mod DescribeLemmas
 pub mod BlankLemmas
 pub mod NewLemmas
 pub mod MadeLemmas

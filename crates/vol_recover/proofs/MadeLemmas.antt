@@ -1,6 +1,6 @@
 -- A volume that was mounted shows what a mount makes of the plain volume that is followed from its first object on.
 use Rattle.std.proofs.Common.{◌≡◌, ℕ, ◌+◌, ◌-◌, ◌≤◌, Option, Some, None, List, [], take, drop, sym, ◌∙◌, ap, subst, arith}
-use Rattle.std.specs.Prelude.{IfSome}
+use Rattle.std.specs.Prelude.{IfSome, length}
 use Rattle.std.proofs.lemmas.List.{take-take}
 use Rattle.lsvd_base.specs.declared.entry.Entry.{Entry}
 use Rattle.lsvd_device.specs.Device.{DiskState}
@@ -10,7 +10,7 @@ use Rattle.object_stream.specs.Landed.{Numbers}
 use Rattle.object_stream.specs.Stream.{end_after, end_at, entries_in_object, place_in_object}
 use Rattle.volume_maps.specs.declared.place.ObjectPlace.{ObjectPlace}
 use Rattle.volume_maps.specs.Maps.{settled_at}
-use Rattle.object_uploads.specs.Stream.{object_at, IsPlacedIn}
+use Rattle.object_uploads.specs.Stream.{object_at, IsPlacedOwn, IsPlacedIn}
 use Rattle.stopped_volume.specs.Device.{CacheOwner, owner_with}
 use Rattle.plain_disk.specs.declared.log.PlainCommit.{PlainCommit}
 use Rattle.plain_disk.specs.Log.{mounted_log, empty_from}
@@ -69,9 +69,9 @@ module _ (plain : PlainState) (landed : Numbers) (count : ℕ) (valid : IsPlainV
       (take-take part (count - plain.end) plain.entries (omega (arith, first, before, grown, within)))
 
   -- a place in one of them is where it has the sector
-  placed_in_kept : (k : ℕ) (place : ObjectPlace) → place.number ≤ recovered_number landed plain
-      → IsPlacedIn (stream_in plain) k place → IsPlacedIn (stream_in kept) k place
-  placed_in_kept k place low placed = λ own past.
+  own_in_kept : (k : ℕ) (place : ObjectPlace) → place.number ≤ recovered_number landed plain
+      → IsPlacedOwn (stream_in plain) k place → IsPlacedOwn (stream_in kept) k place
+  own_in_kept k place low placed = λ own past.
       let i = place.number - (plain.number + 1) in
       let same : object_at (stream_in kept) place.number ≡ object_at (stream_in plain) place.number =
       get_of_first (recovered_number landed plain - plain.number) i plain.objects (omega (arith, past, low)) in
@@ -79,6 +79,10 @@ module _ (plain : PlainState) (landed : Numbers) (count : ℕ) (valid : IsPlainV
       λ found list. IfSome found (λ object. place.sector ≡ place_in_object object.content list k) in
       subst (Placed (object_at (stream_in kept) place.number)) (sym (same_entries place.number low))
       (subst (λ found. Placed found (entries_in_object (stream_in plain) place.number)) (sym same) (placed own past))
+
+  placed_in_kept : (k : ℕ) (place : ObjectPlace) → (place.level ≡ 0 → place.number ≤ recovered_number landed plain)
+      → IsPlacedIn (stream_in plain) k place → IsPlacedIn (stream_in kept) k place
+  placed_in_kept k place low placed = (λ own past. own_in_kept k place (low own) placed.0 own past, placed.1)
 
 -- what follows of each value follows of one that is told
 if_so : {A : Type 0} (P Q : A → Type 0) (told : Option A) → ((value : A) → P value → Q value) → IfSome told P → IfSome told Q
@@ -91,14 +95,14 @@ if_so P Q (Some value) follows is = follows value is
 pub finds_of : (uuid : List ℕ) (epoch : ℕ) (plain : PlainState) (landed : Numbers) (objects : Objects) → IsPlainVolume plain
     → HasVolumeUpTo uuid epoch plain landed objects → Finds landed plain
 finds_of uuid epoch plain landed objects valid has =
-    let first = has.blank.number in
+    let first = has.opens.number in
     let some = valid.checkpoint.numbered in
     record { valid = valid; may = has.may; opened = omega (arith, first, some) }
 
 module _ (uuid : List ℕ) (epoch : ℕ) (plain : PlainState) (landed : Numbers) (objects : Objects) (volume : VolumeState)
     (valid : IsPlainVolume plain) (has : HasVolumeUpTo uuid epoch plain landed objects)
     (sealed : volume.objects.uploads.queue.sealed ≡ [])
-    (knows : KnowsObjects (expected_of uuid plain.geometry) objects (landed_checkpoint landed plain).number
+    (knows : KnowsObjects (expected_of uuid plain.geometry (length plain.chain)) objects (landed_checkpoint landed plain).number
     volume.objects.uploads.queue) where
   abbrev base : ℕ
   base = (landed_checkpoint landed plain).number
@@ -109,13 +113,13 @@ module _ (uuid : List ℕ) (epoch : ℕ) (plain : PlainState) (landed : Numbers)
     made = record (found_by landed count plain) { geometry = sizes_with log plain.geometry; cache = cache }
 
     placed_to_base : (k : ℕ) → IfSome (settled_at volume.objects.uploads.queue.maps k) (λ (place : ObjectPlace).
-        place.number ≤ base → IsPlacedIn (stream_in made) k place)
+        (place.level ≡ 0 → place.number ≤ base) → IsPlacedIn (stream_in made) k place)
     placed_to_base k =
-        if_so (λ (place : ObjectPlace). place.number ≤ base → IsPlacedIn (stream_in plain) k place)
-        (λ (place : ObjectPlace). place.number ≤ base → IsPlacedIn (stream_in made) k place)
+        if_so (λ (place : ObjectPlace). (place.level ≡ 0 → place.number ≤ base) → IsPlacedIn (stream_in plain) k place)
+        (λ (place : ObjectPlace). (place.level ≡ 0 → place.number ≤ base) → IsPlacedIn (stream_in made) k place)
         (settled_at volume.objects.uploads.queue.maps k)
         (λ place placed low. placed_in_kept plain landed count valid within k place
-        (omega (arith, low, recovers_base plain landed)) (placed low))
+        (λ own. let most = low own in omega (arith, most, recovers_base plain landed)) (placed low))
         (known_is_placed uuid epoch plain landed objects volume.objects.uploads valid has knows k)
 
     shows_made : IsPlainVolume made → Shows volume (folded_to base made) → Shows volume made
@@ -127,8 +131,8 @@ module _ (uuid : List ℕ) (epoch : ℕ) (plain : PlainState) (landed : Numbers)
 
 pub with_cache_shows : (owner : CacheOwner) (plain : PlainState) (found : PlainCommit) (landed : Numbers) (objects : Objects)
     (disk : DiskState) (mounted : MountedState) → MayMountWith owner plain found landed objects disk
-    → IsOfVolume owner plain.geometry mounted
-    → IsMountOf (expected_of owner.uuid plain.geometry) (Some objects)
+    → IsOfVolume owner plain.geometry plain.chain mounted
+    → IsMountOf (expected_of owner.uuid plain.geometry (length plain.chain)) (Some objects)
     (mounted_with found (recovered_number landed plain) (found_in landed plain)) (recovered_number landed plain) mounted
     → Shows mounted.volume.volume
     (passing (fuse_in mounted.volume.volume.log.commits.disk.budget) (mounted_from landed found plain))
@@ -149,8 +153,8 @@ with_cache_shows owner plain found landed objects disk mounted may of_volume is 
 
 pub without_shows : (uuid : List ℕ) (log epoch : ℕ) (plain : PlainState) (landed : Numbers) (objects : Objects)
     (mounted : MountedState) → MayMountWithout uuid log epoch plain landed objects
-    → IsOfVolume (owner_with uuid (epoch + 1)) (sizes_with log plain.geometry) mounted
-    → IsMountOf (expected_of uuid (sizes_with log plain.geometry)) (Some objects)
+    → IsOfVolume (owner_with uuid (epoch + 1)) (sizes_with log plain.geometry) plain.chain mounted
+    → IsMountOf (expected_of uuid (sizes_with log plain.geometry) (length plain.chain)) (Some objects)
     (mounted_without log (recovered_number landed plain) (found_in landed plain)) (recovered_number landed plain) mounted
     → Shows mounted.volume.volume
     (passing (fuse_in mounted.volume.volume.log.commits.disk.budget) (mounted_on log landed plain))

@@ -35,7 +35,10 @@ use Rattle.super_recovery.specs.Put.{PutsSuper, PutsEpoch}
 use Rattle.super_recovery.proofs.LawLemmas.{volume_is_created}
 use Rattle.vol_recover.specs.Creating.{PutsFirst, PutsNoSuper, PutsSome, PutsVolume, IsNewTo, HasNewVolume, HasNoneOrNew}
 use Rattle.vol_recover.specs.Creating.{super_of}
-use Rattle.vol_recover.proofs.BlankLemmas.{uuid_alone, opens_blank}
+use Rattle.vol_recover.proofs.BlankLemmas.{no_place, opens_blank, inherits_nothing}
+use Rattle.extent_map.specs.Extents.{place_at}
+use Rattle.ckpt_format.specs.Places.{stored_on}
+use Rattle.stopped_volume.specs.Ancestors.{uuid_in_chain}
 
 -- ---- names
 
@@ -109,13 +112,13 @@ module _ (uuid : List ℕ) (geometry : Geometry) (old : Objects) (new_to : IsNew
       (puts_first : PutsFirst uuid geometry old first) (puts_epoch : PutsEpoch uuid 0 first epoch)
       (puts_super : PutsSuper (super_of uuid geometry) epoch new) where
     abbrev volume : Expected
-    volume = expected_of uuid geometry
+    volume = expected_of uuid geometry 0
 
     abbrev created : PlainState
     created = created_volume geometry
 
     abbrev landed : Numbers
-    landed = landed_in new (expected_of uuid geometry)
+    landed = landed_in new (expected_of uuid geometry 0)
 
     same_as_first : (name : ObjName) → (name ≡ epoch_name uuid 0 → ⊥) → (name ≡ super_name uuid → ⊥)
         → found new name ≡ found first name
@@ -149,9 +152,9 @@ module _ (uuid : List ℕ) (geometry : Geometry) (old : Objects) (new_to : IsNew
       same = λ number. (λ (is : false ≡ true). absurd cc, λ kept. absurd (none_held kept.0 kept.1));
     }
 
-    has_volume : HasVolume uuid geometry 0 new
+    has_volume : HasVolume uuid geometry [] 0 new
     has_volume =
-        volume_is_created (super_of uuid geometry) geometry new refl refl puts_super.says has_epoch
+        volume_is_created (super_of uuid geometry) geometry new refl puts_super.says has_epoch
         (λ number past.
         still_lacks (epoch_name uuid number) refl (first_is_no_epoch uuid number) (other_epoch uuid number past)
         (super_is_no_epoch uuid number))
@@ -197,6 +200,7 @@ module _ (uuid : List ℕ) (geometry : Geometry) (old : Objects) (new_to : IsNew
       rows = has_first.rows;
       is_checkpoint = has_first.is_checkpoint;
       says = has_first.says;
+      places = λ k place at. absurd (no_place (place_at stored_on has_first.rows k) place (sym (has_first.says k)) at);
     })
 
     there_is_first : (number : ℕ) → 0 < number → number ≤ 1
@@ -223,7 +227,8 @@ module _ (uuid : List ℕ) (geometry : Geometry) (old : Objects) (new_to : IsNew
     has_up_to : HasVolumeUpTo uuid 0 created landed new
     has_up_to = record {
       described = has_volume;
-      blank = created_opens geometry;
+      opens = created_opens geometry;
+      inherits = inherits_nothing uuid geometry.sectors new;
       seals = created_seals geometry;
       holds = has_no_holds;
       may = may_land;
@@ -260,7 +265,6 @@ module _ (uuid : List ℕ) (geometry : Geometry) (old : Objects) (new_to : IsNew
         let data_of = there.stored in
         let stream = data_of.stored in
         record {
-          uuid_at = uuid_alone uuid;
           opened = refl;
           window = refl;
           pins = refl;
@@ -279,7 +283,7 @@ module _ (uuid : List ℕ) (geometry : Geometry) (old : Objects) (new_to : IsNew
               checkpoints = stream.checkpoints;
               missing = stream.missing;
               base = stream.base;
-              opens = opens_blank volume (uuid_alone uuid) new (stream_in created) geometry.sectors has_first (λ k. refl);
+              opens = opens_blank volume (uuid_in_chain uuid []) new (stream_in created) geometry.sectors has_first (λ k. refl);
               last = omega arith;
               stored = tt;
               past = stream.past;

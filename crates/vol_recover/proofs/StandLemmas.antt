@@ -1,6 +1,6 @@
 -- A volume that was created or mounted stands with its store.
 use Rattle.std.proofs.Common.{◌≡◌, ℕ, ◌+◌, ◌^◌, ◌<◌, ◌≤◌, ◌⊎◌, eqb, Option, Some, None, List, inl, inr, refl, sym, ◌∙◌}
-use Rattle.std.proofs.Common.{subst, arith}
+use Rattle.std.proofs.Common.{subst, ap, arith, length}
 use Rattle.lsvd_base.specs.declared.geometry.Geometry.{Geometry}
 use Rattle.lsvd_names.specs.Spelling.{IsUuid}
 use Rattle.lsvd_objstore.specs.Objects.{Objects, found}
@@ -16,7 +16,7 @@ use Rattle.stopped_volume.specs.Store.{PutState, MayHoldPut}
 use Rattle.stopped_volume.specs.Super.{HasVolume}
 use Rattle.super_recovery.specs.Put.{PutsEpoch}
 use Rattle.super_recovery.proofs.LawLemmas.{says_the_same, next_epoch_is_begun}
-use Rattle.plain_disk.specs.State.{PlainState, created_volume}
+use Rattle.plain_disk.specs.State.{PlainState, stream_in, created_volume}
 use Rattle.plain_disk.specs.Stops.{recovered_number, mounted_from, mounted_on}
 use Rattle.plain_disk.specs.Found.{found_in}
 use Rattle.plain_disk.specs.Removals.{absent_of}
@@ -27,7 +27,7 @@ use Rattle.object_recovery.specs.Checkpoints.{expected_of}
 use Rattle.object_recovery.specs.Removal.{Removes}
 use Rattle.object_recovery.specs.Recovery.{IsPastOf, RemovesAllPast}
 use Rattle.refine_log.specs.Fuses.{fuse_in}
-use Rattle.refine_store.specs.Puts.{MayBeLeft}
+use Rattle.refine_store.specs.Puts.{Inherits, MayBeLeft}
 use Rattle.refine_store.specs.Stored.{StoreStands, HasVolumeUpTo, HasNonePast}
 use Rattle.refine_store.proofs.HoldLemmas.{KeepsHolds, holds_stay}
 use Rattle.refine_store.proofs.StandLemmas.{mounted_stands, stands_with_any_cache}
@@ -39,6 +39,10 @@ use Rattle.vol_recover.specs.Creating.{HasNewVolume}
 use Rattle.vol_recover.specs.Standing.{IsMadeWithStore, CreatedStands, MountedWithStands, MountedWithoutStands}
 use Rattle.vol_recover.proofs.MadeLemmas.{with_cache_shows, without_shows}
 use Rattle.vol_recover.proofs.NewLemmas.{epoch_is_no_object, hold_is_no_epoch}
+use Rattle.clone_chain.specs.declared.ancestor.Ancestor.{Ancestor}
+use Rattle.stopped_volume.specs.Ancestors.{KeepsOtherVolumes}
+use Rattle.stopped_volume.proofs.InheritedLemmas.{inherited_is_kept}
+use Rattle.lsvd_names.specs.declared.name.ObjName.{ObjName}
 
 -- ---- a store that keeps the objects up to a number
 
@@ -51,19 +55,26 @@ still_none : (old new : Option (List ℕ)) → (new ≡ old) ⊎ (new ≡ None) 
 still_none old new (inl same) none = same ∙ none
 still_none old new (inr gone) none = gone
 
--- the objects up to a number and the holds stay, and each object past it stays or goes
+-- the objects up to a number and the holds stay, and each object past it stays or goes; no other volume changes
 pub record KeepsUpTo (uuid : List ℕ) (number : ℕ) (old new : Objects) : Type 0 where
   pub same : (other : ℕ) → other ≤ number → found new (numbered_name uuid other) ≡ found old (numbered_name uuid other)
   pub later : (other : ℕ) → (found new (numbered_name uuid other) ≡ found old (numbered_name uuid other))
       ⊎ (found new (numbered_name uuid other) ≡ None)
   pub holds : (other : ℕ) → found new (hold_name uuid other) ≡ found old (hold_name uuid other)
+  pub others : KeepsOtherVolumes uuid old new
+
+-- what is inherited stays with it
+still_inherits : (uuid : List ℕ) (plain : PlainState) (old new : Objects) → KeepsOtherVolumes uuid old new
+    → Inherits uuid plain old → Inherits uuid plain new
+still_inherits uuid plain old new others inherits =
+    inherited_is_kept uuid plain.chain (stream_in plain).opening (stream_in plain).inherited plain.opening old new others inherits
 
 module _ (uuid : List ℕ) (old new : Objects) (epoch next : ℕ) (plain : PlainState) (landed : Numbers)
     (valid : IsPlainVolume plain)
     (keeps : KeepsUpTo uuid (recovered_number landed plain) old new) (has : HasVolumeUpTo uuid epoch plain landed old)
-    (described : HasVolume uuid plain.geometry next new) where
+    (described : HasVolume uuid plain.geometry plain.chain next new) where
   abbrev volume : Expected
-  volume = expected_of uuid plain.geometry
+  volume = expected_of uuid plain.geometry (length plain.chain)
 
   held_before : (other : ℕ) (bytes : List ℕ) → found new (numbered_name uuid other) ≡ Some bytes
       → found old (numbered_name uuid other) ≡ Some bytes
@@ -96,7 +107,8 @@ module _ (uuid : List ℕ) (old new : Objects) (epoch next : ℕ) (plain : Plain
   pub keeps_up_to : HasVolumeUpTo uuid next plain landed new
   keeps_up_to = record {
     described = described;
-    blank = has.blank;
+    opens = has.opens;
+    inherits = still_inherits uuid plain old new keeps.others has.inherits;
     seals = has.seals;
     holds = holds_stay volume plain.held old new keeps_holds has.holds;
     may = has.may;
@@ -120,16 +132,17 @@ module _ (uuid : List ℕ) (number : ℕ) (old new : Objects) (removes : Removes
     same = λ other low. removes.others (numbered_name uuid other) (λ past. absurd (omega (arith, past.1.1, low)));
     later = λ other. removes.removed (numbered_name uuid other);
     holds = λ other. removes.others (hold_name uuid other) (λ past. (let e = past.1.0 in cc));
+    others = λ name apart. removes.others name (λ past. apart past.0);
   }
 
-  pub removal_keeps_volume : (geometry : Geometry) (epoch : ℕ) → HasVolume uuid geometry epoch old
-      → HasVolume uuid geometry epoch new
-  removal_keeps_volume geometry epoch has =
+  pub removal_keeps_volume : (geometry : Geometry) (chain : List Ancestor) (epoch : ℕ) → HasVolume uuid geometry chain epoch old
+      → HasVolume uuid geometry chain epoch new
+  removal_keeps_volume geometry chain epoch has =
       (says_the_same uuid old new (record {
         of_super = removes.others (super_name uuid) (λ past. (let e = past.1.0 in cc));
         of_epochs = λ n. removes.others (epoch_name uuid n) (λ past. (let e = past.1.0 in cc));
         of_holds = λ n. removes.others (hold_name uuid n) (λ past. (let e = past.1.0 in cc));
-      })).has geometry epoch has
+      })).has geometry chain epoch has
 
 pub removal_keeps_up_to : (uuid : List ℕ) (old new : Objects) (epoch : ℕ) (plain : PlainState) (landed : Numbers)
     → IsPlainVolume plain → Removes (IsPastOf uuid (recovered_number landed plain)) old new
@@ -137,7 +150,7 @@ pub removal_keeps_up_to : (uuid : List ℕ) (old new : Objects) (epoch : ℕ) (p
 removal_keeps_up_to uuid old new epoch plain landed valid removes has =
     let number = recovered_number landed plain in
     keeps_up_to uuid old new epoch epoch plain landed valid (removal_keeps uuid number old new removes) has
-    (removal_keeps_volume uuid number old new removes plain.geometry epoch has.described)
+    (removal_keeps_volume uuid number old new removes plain.geometry plain.chain epoch has.described)
 
 -- where all are, none is left: each was whole, so that a name may have its number
 pub none_is_past : (uuid : List ℕ) (epoch : ℕ) (plain : PlainState) (landed : Numbers) (old new : Objects) → IsUuid uuid
@@ -151,7 +164,8 @@ none_is_past uuid epoch plain landed old new is_uuid has removed other past =
         still_none (found old (numbered_name uuid other)) (found new (numbered_name uuid other))
         (removed.removes.removed (numbered_name uuid other)) was
     by_held (Some bytes) was =
-        let whole : IsWhole (expected_alone (expected_of uuid plain.geometry) other) bytes = has.past other bytes past was in
+        let whole : IsWhole (expected_alone (expected_of uuid plain.geometry
+        (length plain.chain)) other) bytes = has.past other bytes past was in
         let head = whole.2.head in
         let fits : other < 2 ^ 64 = subst (λ n. n < 2 ^ 64) head.number head.widths.number in
         removed.gone (numbered_name uuid other) (record { uuid = is_uuid; number = tt; fits = fits }) (refl, (refl, past))
@@ -165,21 +179,30 @@ module _ (uuid : List ℕ) (epoch : ℕ) (old new : Objects) (begun : PutsEpoch 
   same_hold : (number : ℕ) → found new (hold_name uuid number) ≡ found old (hold_name uuid number)
   same_hold number = begun.others (hold_name uuid number) (hold_is_no_epoch uuid number (epoch + 1))
 
+  same_others : KeepsOtherVolumes uuid old new
+  same_others name apart = begun.others name (λ same. apart (ap (λ (n : ObjName). n.uuid) same))
+
   pub next_is_up_to : (plain : PlainState) (landed : Numbers) → IsPlainVolume plain → HasVolumeUpTo uuid epoch plain landed old
       → HasVolumeUpTo uuid (epoch + 1) plain landed new
   next_is_up_to plain landed valid has =
       keeps_up_to uuid old new epoch (epoch + 1) plain landed valid
-      (record { same = λ other low. same_object other; later = λ other. inl (same_object other); holds = same_hold }) has
-      (next_epoch_is_begun uuid plain.geometry epoch old new has.described begun)
+      (record {
+        same = λ other low. same_object other;
+        later = λ other. inl (same_object other);
+        holds = same_hold;
+        others = same_others;
+      }) has
+      (next_epoch_is_begun uuid plain.geometry plain.chain epoch old new has.described begun)
 
   next_is_left : (plain : PlainState) (puts : ℕ → Option (PutState × List ℕ)) → MayBeLeft uuid epoch plain puts old
       → MayBeLeft uuid (epoch + 1) plain puts new
   next_is_left plain puts left = record {
-    described = next_epoch_is_begun uuid plain.geometry epoch old new left.described begun;
-    blank = left.blank;
+    described = next_epoch_is_begun uuid plain.geometry plain.chain epoch old new left.described begun;
+    opens = left.opens;
+    inherits = still_inherits uuid plain old new same_others left.inherits;
     seals = left.seals;
     holds =
-        holds_stay (expected_of uuid plain.geometry) plain.held old new
+        holds_stay (expected_of uuid plain.geometry (length plain.chain)) plain.held old new
         (record { names = same_hold; checkpoints = λ other held. same_object other }) left.holds;
     held = record {
       puts_are = λ other state bytes is.

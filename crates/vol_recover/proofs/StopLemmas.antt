@@ -1,7 +1,7 @@
 -- What a stop leaves of a volume that stands with its store may be mounted.
 use Rattle.std.proofs.Common.{◌≡◌, ℕ, ◌^◌, ◌<◌, ◌≤◌, Option, Some, None, OnSome, List, [], ◌∷◌, inl, inr, refl, sym, ap}
 use Rattle.std.proofs.Common.{subst, arith}
-use Rattle.std.specs.Prelude.{IsTrue, IfSome}
+use Rattle.std.specs.Prelude.{IsTrue, IfSome, length}
 use Rattle.lsvd_base.specs.Limits.{is_within_limits}
 use Rattle.lsvd_device.specs.Device.{HoldsNow, HoldsSince}
 use Rattle.lsvd_device.specs.Medium.{Medium, MayLeave}
@@ -44,10 +44,12 @@ use Rattle.vol_recover.proofs.MadeLemmas.{finds_of}
 pub found_is_stored : (uuid : List ℕ) (log epoch : ℕ) (plain : PlainState) (landed : Numbers) (objects : Objects)
     → IsPlainVolume plain → HasVolumeUpTo uuid epoch plain landed objects
     → IsTrue (is_within_limits (sizes_with log plain.geometry)) → recovered_number landed plain < 2 ^ 63
-    → IsStored uuid (sizes_with log plain.geometry) (found_in landed plain) (recovered_number landed plain) (Some objects)
+    → IsStored uuid (sizes_with log plain.geometry) plain.chain (found_in landed plain) (recovered_number landed plain)
+    (Some objects)
 found_is_stored uuid log epoch plain landed objects valid has limits low = record {
   valid = found_is plain landed (finds_of uuid epoch plain landed objects valid has);
   sizes = refl;
+  chain_is = refl;
   limits = limits;
   objects_are = volume_has_objects uuid epoch plain landed objects valid has;
   low = low;
@@ -98,7 +100,7 @@ module _ (stepped : SteppedVolume) (epoch : ℕ) (plain : PlainState) (objects :
   owner = owner_with stepped.volume.objects.uploads.uuid epoch
 
   abbrev landed : Numbers
-  landed = landed_in objects (expected_of uuid plain.geometry)
+  landed = landed_in objects (expected_of uuid plain.geometry (length plain.chain))
 
   abbrev number : ℕ
   number = recovered_number landed plain

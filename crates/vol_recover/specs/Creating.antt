@@ -46,13 +46,13 @@ of_super error = StoreFault
 
 -- bytes are those of the first object of a volume: a checkpoint without rows, and without entries before it
 abbrev pub IsFirstObject : (uuid : List ℕ) → Geometry → (bytes : List ℕ) → Type 0
-IsFirstObject uuid geometry bytes = IsCheckpoint bytes (expected_alone (expected_of uuid geometry) 1) 0 []
+IsFirstObject uuid geometry bytes = IsCheckpoint bytes (expected_alone (expected_of uuid geometry 0) 1) 0 []
 
 -- the first object of a volume was put into a store
 abbrev pub PutsFirst : (uuid : List ℕ) → Geometry → (old new : Objects) → Type 0
 PutsFirst uuid geometry old new =
-    (bytes : List ℕ) × IsPut (object_name (expected_of uuid geometry) 1) bytes old new
-    × IsCheckpointOf (expected_of uuid geometry) new 1 0 (λ k. None)
+    (bytes : List ℕ) × IsPut (object_name (expected_of uuid geometry 0) 1) bytes old new
+    × IsCheckpointOf (expected_of uuid geometry 0) new 1 0 (λ k. None)
 
 -- and then its first epoch
 abbrev pub PutsEpochToo : (uuid : List ℕ) → Geometry → (old new : Objects) → Type 0
@@ -94,7 +94,7 @@ IsNewTo uuid objects =
 -- the store has the volume, with no entries, and stands for it, whatever objects are on their way: none is
 abbrev pub HasNewVolume : (uuid : List ℕ) → Geometry → Objects → Type 0
 HasNewVolume uuid geometry objects =
-    HasVolume uuid geometry 0 objects × HasObjects uuid (created_volume geometry) 1 objects
+    HasVolume uuid geometry [] 0 objects × HasObjects uuid (created_volume geometry) 1 objects
     × ((uploads : UploadsState) → StoreStands uuid 0 (created_volume geometry) uploads objects)
 
 -- the store has no volume, or has it so

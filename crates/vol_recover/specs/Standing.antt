@@ -17,10 +17,10 @@ use Rattle.plain_disk.specs.State.{PlainState, created_volume, history_length, f
 use Rattle.plain_disk.specs.Stops.{recovered_number, mounted_from, mounted_on}
 use Rattle.plain_disk.specs.Found.{found_in, landed_to}
 use Rattle.plain_disk.specs.Valid.{IsPlainVolume, IsCommitWithin}
-use Rattle.object_recovery.specs.Checkpoints.{expected_of}
 use Rattle.object_recovery.specs.Recovery.{RemovesAllPast, MayRemovePast}
 use Rattle.refine_log.specs.Fuses.{fuse_in}
 use Rattle.refine_log.specs.Stops.{IsFoundCommit}
+use Rattle.refine_mount.specs.Found.{expected_for}
 use Rattle.refine_mount.specs.Mounted.{sizes_with}
 use Rattle.refine_mount.specs.Stops.{StopKeepsMount}
 use Rattle.refine_store.specs.Stored.{StoreStands, HasVolumeUpTo}
@@ -57,7 +57,8 @@ pub record MayMountWithout (uuid : List ℕ) (log epoch : ℕ) (plain : PlainSta
     Type 0 where
   pub valid : IsPlainVolume plain
   pub stored :
-      IsStored uuid (sizes_with log plain.geometry) (found_in landed plain) (recovered_number landed plain) (Some objects)
+      IsStored uuid (sizes_with log plain.geometry) plain.chain (found_in landed plain) (recovered_number landed plain)
+      (Some objects)
   pub volume : HasVolumeUpTo uuid epoch plain landed objects
 
 -- and with it: the device reads as this commit of the plain volume
@@ -66,7 +67,8 @@ pub record MayMountWith (owner : CacheOwner) (plain : PlainState) (found : Plain
   pub valid : IsPlainVolume plain
   pub commit : IsCommitWithin plain.cache.log.size (frontier_end plain) (history_length plain) found
   pub later : plain.cache.log.last.tail.seq ≤ found.tail.seq
-  pub left : IsLeft owner plain.geometry (found_in landed plain) found (recovered_number landed plain) (Some objects) disk
+  pub left : IsLeft owner plain.geometry plain.chain (found_in landed plain) found (recovered_number landed plain)
+      (Some objects) disk
   pub volume : HasVolumeUpTo owner.uuid owner.epoch plain landed objects
 
 -- whatever a stop leaves of a medium, a device that has it may be mounted with these objects: it reads as a commit with P
@@ -74,7 +76,7 @@ abbrev pub StopMayMount : (owner : CacheOwner) → PlainState → (P : PlainComm
 StopMayMount owner plain P objects medium =
     (disk : DiskState) → HasNow (λ now. MayLeave medium now.bytes) disk.moments
     → (found : PlainCommit) × P found
-    × MayMountWith owner plain found (landed_in objects (expected_of owner.uuid plain.geometry)) objects disk
+    × MayMountWith owner plain found (landed_in objects (expected_for owner.uuid plain)) objects disk
 
 -- ---- creations and mounts
 
@@ -91,7 +93,7 @@ MountedWithStands =
     (owner : CacheOwner) (plain : PlainState) (found : PlainCommit) (landed : Numbers) (old new : Objects) (disk : DiskState)
     (mounted : MountedState)
     → IsUuid owner.uuid → MayMountWith owner plain found landed old disk
-    → MountsLeft owner plain.geometry (Some old) disk mounted → IsOfVolume owner plain.geometry mounted
+    → MountsLeft owner plain.geometry plain.chain (Some old) disk mounted → IsOfVolume owner plain.geometry plain.chain mounted
     → RemovesAllPast owner.uuid mounted.number old new
     → IsMadeWithStore owner.uuid owner.epoch (mounted_from landed found plain) mounted.volume.volume new
 
@@ -100,8 +102,8 @@ abbrev pub MountedWithoutStands : Type 0
 MountedWithoutStands =
     (uuid : List ℕ) (log epoch : ℕ) (plain : PlainState) (landed : Numbers) (old new : Objects) (mounted : MountedState)
     → IsUuid uuid → MayMountWithout uuid log epoch plain landed old
-    → MountsStored uuid (sizes_with log plain.geometry) (Some old) mounted
-    → IsOfVolume (owner_with uuid (epoch + 1)) (sizes_with log plain.geometry) mounted
+    → MountsStored uuid (sizes_with log plain.geometry) plain.chain (Some old) mounted
+    → IsOfVolume (owner_with uuid (epoch + 1)) (sizes_with log plain.geometry) plain.chain mounted
     → BeginsEpoch uuid mounted.number (epoch + 1) old new
     → IsMadeWithStore uuid (epoch + 1) (mounted_on log landed plain) mounted.volume.volume new
 
@@ -115,7 +117,7 @@ StopLeavesStore =
     → StandsWithStore (volume_uuid stepped.volume) epoch plain stepped.volume objects
     → IsTrue (is_within_limits (sizes_with log plain.geometry))
     → MayMountWithout (volume_uuid stepped.volume) log epoch plain
-    (landed_in objects (expected_of (volume_uuid stepped.volume) plain.geometry)) objects
+    (landed_in objects (expected_for (volume_uuid stepped.volume) plain)) objects
 
 -- And with the cache, by whatever a stop leaves of the device: that reads as the last commit of the plain volume or as the
 -- unfinished one.
@@ -146,7 +148,7 @@ abbrev pub StoppedWithCache : Type 0
 StoppedWithCache =
     (owner : CacheOwner) (plain : PlainState) (found : PlainCommit) (landed : Numbers) (old new : Objects)
     (disk left : DiskState) (medium : Medium)
-    → MayMountWith owner plain found landed old disk → MayRemovePast (Unit {0}) (expected_of owner.uuid plain.geometry) old new
+    → MayMountWith owner plain found landed old disk → MayRemovePast (Unit {0}) (expected_for owner.uuid plain) old new
     → StopKeepsMount owner (found_in landed plain) found (recovered_number landed plain) medium
     → HasNow (λ now. MayLeave medium now.bytes) left.moments
     → MayMountWith owner plain found landed new left
@@ -159,6 +161,6 @@ abbrev pub StoppedWithoutCache : Type 0
 StoppedWithoutCache =
     (uuid : List ℕ) (log epoch : ℕ) (plain : PlainState) (landed : Numbers) (old new : Objects) → IsUuid uuid
     → MayMountWithout uuid log epoch plain landed old
-    → MayBeginEpoch (Unit {0}) (expected_of uuid plain.geometry) (epoch + 1) old new
+    → MayBeginEpoch (Unit {0}) (expected_for uuid plain) (epoch + 1) old new
     → MayMountWithout uuid log epoch plain landed new
     ⊎ MayMountWithout uuid log (epoch + 1) (mounted_on log landed plain) (landed_to (recovered_number landed plain) landed) new

@@ -18,7 +18,7 @@ use vol_mount::{MountError, refuse_log};
 /// An error is that of a mount without the cache on each device whose log has so many sectors. They are
 /// tested in this order:
 ///
-/// - `NoVolume`, `BadSuper`, `HasAncestors`: the volume as a whole is refused.
+/// - `NoVolume`, `BadSuper`, `BaseMissing`: the volume as a whole is refused, or an ancestor of it.
 /// - `NoCheckpoint`, `BadObject`, `MissingObject`: the log does not fit the volume, and its objects are
 ///   refused.
 /// - `NoSlot`: the log does not fit the volume.

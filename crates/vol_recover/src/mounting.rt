@@ -25,8 +25,10 @@ use vol_mount::{MountError, Mounted, mount_with_cache, mount_without_cache, refu
 /// the device, which is a disk still. What is tested comes in this order, and each error says that the tests
 /// before it were passed:
 ///
-/// - `NoVolume`, `BadSuper`, `HasAncestors`: the volume as a whole is refused. The device is as it was.
-/// - `NoCheckpoint`, `BadObject`, `MissingObject`: its objects are refused. The device is as it was.
+/// - `NoVolume`, `BadSuper`, `BaseMissing`: the volume as a whole is refused, or an ancestor of it. The
+///   device is as it was.
+/// - `NoCheckpoint`, `BadObject`, `MissingObject`, `BaseMissing`: its objects, or those of its ancestors, are
+///   refused. The device is as it was.
 /// - `NoSlot`: the log of the device does not fit the volume, or no slot of the device is open; it was but
 ///   synced then. After the others that refuse the device it keeps the commit that it reads as.
 /// - `WrongVolume`: the commit is of a volume with another uuid.
@@ -66,8 +68,9 @@ pub fn mount_kept<D: Disk, S: Store>(
 /// makes what such a mount is to make. An error comes with the device, which is a disk still. What is tested
 /// comes in this order, and each error says that the tests before it were passed:
 ///
-/// - `NoVolume`, `BadSuper`, `HasAncestors`: the volume as a whole is refused.
-/// - `NoCheckpoint`, `BadObject`, `MissingObject`: its objects are refused.
+/// - `NoVolume`, `BadSuper`, `BaseMissing`: the volume as a whole is refused, or an ancestor of it.
+/// - `NoCheckpoint`, `BadObject`, `MissingObject`, `BaseMissing`: its objects, or those of its ancestors, are
+///   refused.
 /// - `NoSlot`: the log of the device does not fit the volume.
 /// - `Worn`: the epoch, the greatest number of an object, or the count of entries is 2^60 or more.
 /// - `StoreFault`, `DeviceFault`: a call of the store, or of the device, failed, which ended the mount. The

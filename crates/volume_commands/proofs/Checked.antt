@@ -8,14 +8,14 @@ use Rattle.lsvd_objstore.specs.Store.{ReceiptState}
 use Rattle.stopped_volume.specs.Store.{TellsBytes}
 use Rattle.vol_check.specs.Report.{IsReport}
 use Rattle.vol_check.specs.declared.report.CheckReport.{CheckReport}
-use Rattle.vol_check.specs.declared.report.Missing.{Missing}
+use Rattle.vol_check.specs.declared.report.ObjectOfLevel.{ObjectOfLevel}
 use Rattle.volume_commands.specs.declared.report.Report.{Report}
 use Rattle.volume_commands.specs.Checking.{ChecksStore, IsCheckText, TellsCheck, check_text, ended_by, missing_words}
 use Rattle.volume_commands.specs.Checking.{number_words}
 use Rattle.volume_commands.specs.Output.{AppendsFront, AppendsFrontOf}
 
 -- each part was added behind those before it
-pub text_is : (found : CheckReport) {uuid last holds checkpoints stranded unneeded : List ℕ} {missing : List Missing}
+pub text_is : (found : CheckReport) {uuid last holds checkpoints stranded unneeded : List ℕ} {missing : List ObjectOfLevel}
     {none word named held listed said ended apart spare gone full : List ℕ}
     → none ≡ [] → word ≡ none ++ codes "volume "
     → uuid ≡ hyphenated_text lower found.uuid → named ≡ word ++ uuid
@@ -31,7 +31,7 @@ text_is found e0 e1 u e2 h e3 k e4 e5 l e6 s e7 n e8 m e9 e10 =
     rw (e10, e9, m, e8, n, e7, s, e6, l, e5, e4, k, e3, h, e2, u, e1, e0) refl
 
 -- the output took all of the text: the run ends as what was found says
-pub told_whole : (found : CheckReport) (ended : Report) (missing : List Missing) (text : List ℕ) (old new : Option (List ℕ))
+pub told_whole : (found : CheckReport) (ended : Report) (missing : List ObjectOfLevel) (text : List ℕ) (old new : Option (List ℕ))
     → missing ≡ found.missing.items → ended ≡ ended_by missing → text ≡ check_text found → Appends old new text
     → TellsCheck ended old new
 told_whole found ended missing text old new lists ends is told =
@@ -40,7 +40,7 @@ told_whole found ended missing text old new lists ends is told =
     added : Appends old new (check_text found)
     added = subst (λ (t : List ℕ). Appends old new t) is told
 
-    by_list : (list : List Missing) → list ≡ found.missing.items → TellsCheck (ended_by list) old new
+    by_list : (list : List ObjectOfLevel) → list ≡ found.missing.items → TellsCheck (ended_by list) old new
     by_list [] lists = (found, sym lists, added)
     by_list (first ∷ rest) lists = (found, some, added)
       where
@@ -49,14 +49,14 @@ told_whole found ended missing text old new lists ends is told =
 
 -- and it is of the store
 pub checks_whole : {R : Type 0} (receipt_state : R → ReceiptState) (uuid : List ℕ) (objects : Option Objects)
-    (found : CheckReport) (ended : Report) (missing : List Missing) (text : List ℕ) (old new : Option (List ℕ))
+    (found : CheckReport) (ended : Report) (missing : List ObjectOfLevel) (text : List ℕ) (old new : Option (List ℕ))
     → (TellsBytes receipt_state → IfSome objects (λ objects. IsReport uuid objects found))
     → missing ≡ found.missing.items → ended ≡ ended_by missing → text ≡ check_text found → Appends old new text
     → ChecksStore receipt_state uuid objects ended old new
 checks_whole receipt_state uuid objects found ended missing text old new reports lists ends is told = record {
   found = found;
   is = reports;
-  ends = subst (λ (list : List Missing). ended ≡ ended_by list) lists ends;
+  ends = subst (λ (list : List ObjectOfLevel). ended ≡ ended_by list) lists ends;
   told = subst (λ (t : List ℕ). Appends old new t) is told;
 }
 

@@ -1,6 +1,7 @@
 -- What `create`, `serve` and `collect` leave of a volume is whole.
 use Rattle.std.proofs.Common.{◌≡◌, ℕ, ◌+◌, true, false, List, [], length, append-nil, refl, sym, ◌∙◌, ap, subst, arith}
 use Rattle.std.specs.Prelude.{Option, Some, IfSome, IsSomeAnd, Ok}
+use Rattle.clone_chain.specs.declared.ancestor.Ancestor.{Ancestor}
 use Rattle.lsvd_base.specs.declared.entry.Entry.{Entry}
 use Rattle.lsvd_base.specs.declared.geometry.Geometry.{Geometry}
 use Rattle.lsvd_device.specs.Device.{DiskState}
@@ -30,6 +31,7 @@ use Rattle.vol_mount.specs.Epochs.{BeginsEpoch}
 use Rattle.vol_mount.specs.Mounted.{MountedState}
 use Rattle.vol_mount.specs.Mounting.{MountsStored, MountsLeft}
 use Rattle.vol_recover.specs.Creating.{CreatedWithStore}
+use Rattle.vol_recover.specs.Describing.{HasWithAncestors}
 use Rattle.vol_recover.specs.Mounting.{MountsKept, MountsLost}
 use Rattle.vol_recover.specs.Standing.{StandsWithStore, IsMadeWithStore, CreatedStands, MountedWithStands}
 use Rattle.vol_recover.specs.Standing.{MountedWithoutStands, MayMountWith, MayMountWithout, StopLeavesStore, StopLeavesBoth}
@@ -221,12 +223,14 @@ module _ {D R : Type 0} (disk_state : D → DiskState) (receipt_state : R → Re
       let ends_kept : MountsKept disk_state (TellsBytes receipt_state) uuid disk store mid (Ok mounted) =
       subst (λ b. MountEnds disk_state receipt_state b uuid disk store mid (Ok mounted)) kept ends in
       let mount = made_kept disk_state (TellsBytes receipt_state) uuid disk store mid mounted ends_kept in
-      let has : IsSomeAnd store.objects (HasVolume uuid plain.geometry epoch) =
-      subst (λ (o : Option Objects). IsSomeAnd o (HasVolume uuid plain.geometry epoch)) (sym told) may.volume.described in
-      let volume = mount.volume tells plain.geometry epoch log_is has in
-      let mounts : MountsLeft (owner_with uuid epoch) plain.geometry (Some objects) disk mounted =
-      subst (λ (o : Option Objects). MountsLeft (owner_with uuid epoch) plain.geometry o disk mounted) told
-      (mount.mounts tells plain.geometry epoch log_is has) in
+      let chain : List Ancestor = plain.chain in
+      let has : IsSomeAnd store.objects (HasWithAncestors uuid plain.geometry chain epoch) =
+      subst (λ (o : Option Objects). IsSomeAnd o (HasWithAncestors uuid plain.geometry chain epoch)) (sym told)
+      (may.volume.described, may.volume.inherits.ancestors) in
+      let volume = mount.volume tells plain.geometry chain epoch log_is has in
+      let mounts : MountsLeft (owner_with uuid epoch) plain.geometry chain (Some objects) disk mounted =
+      subst (λ (o : Option Objects). MountsLeft (owner_with uuid epoch) plain.geometry chain o disk mounted) told
+      (mount.mounts tells plain.geometry chain epoch log_is has) in
       let (left, left_told, removed) =
       told_after (RemovesAllPast uuid mounted.number) store.objects mid.objects objects told mount.removed in
       record {
@@ -249,24 +253,27 @@ module _ {D R : Type 0} (disk_state : D → DiskState) (receipt_state : R → Re
       subst (λ b. MountEnds disk_state receipt_state b uuid disk store mid (Ok mounted)) lost ends in
       let mount = made_lost disk_state (TellsBytes receipt_state) uuid disk store mid mounted ends_lost in
       let described = may.volume.described in
-      let resized : HasVolume uuid sizes epoch objects =
+      let chain : List Ancestor = plain.chain in
+      let resized : HasVolume uuid sizes chain epoch objects =
       record {
         volume = described.volume;
         says = described.says;
         sizes = ap (λ (g : Geometry). sizes_with log g) described.sizes;
-        alone = described.alone;
+        chain_is = described.chain_is;
         epochs = described.epochs;
         whole = described.whole;
         holds = described.holds;
       } in
-      let has : IsSomeAnd store.objects (HasVolume uuid sizes epoch) =
-      subst (λ (o : Option Objects). IsSomeAnd o (HasVolume uuid sizes epoch)) (sym told) resized in
-      let volume = mount.volume tells sizes epoch refl has in
-      let mounts : MountsStored uuid sizes (Some objects) mounted =
-      subst (λ (o : Option Objects). MountsStored uuid sizes o mounted) told (mount.mounts tells sizes epoch refl has) in
+      let has : IsSomeAnd store.objects (HasWithAncestors uuid sizes chain epoch) =
+      subst (λ (o : Option Objects). IsSomeAnd o (HasWithAncestors uuid sizes chain epoch)) (sym told)
+      (resized, may.volume.inherits.ancestors) in
+      let volume = mount.volume tells sizes chain epoch refl has in
+      let mounts : MountsStored uuid sizes chain (Some objects) mounted =
+      subst (λ (o : Option Objects). MountsStored uuid sizes chain o mounted) told
+      (mount.mounts tells sizes chain epoch refl has) in
       let (left, left_told, begins) =
       told_after (BeginsEpoch uuid mounted.number (epoch + 1)) store.objects mid.objects objects told
-      (mount.begun tells sizes epoch refl has) in
+      (mount.begun tells sizes chain epoch refl has) in
       record {
         objects = left;
         told = left_told;

@@ -129,7 +129,7 @@ format_counts uuid error old new fails is = counted (is_device_fault error) fail
 -- a volume that was mounted is idle, and has made no step
 pub mounted_is_idle : (uuid : List ℕ) (log : ℕ) (mounted : MountedState) → IsOfSomeVolume uuid log mounted
     → IsIdle mounted.volume.volume
-mounted_is_idle uuid log mounted (geometry, epoch, log_is, limits, is) = record {
+mounted_is_idle uuid log mounted (geometry, chain, epoch, log_is, limits, is) = record {
   puts = ap (list_any (λ object. object.is_started)) is.acknowledged;
   plans = is.plans;
   none_out = is.none_out;
@@ -138,7 +138,7 @@ mounted_is_idle uuid log mounted (geometry, epoch, log_is, limits, is) = record 
 
 pub mounted_has_room : (uuid : List ℕ) (log : ℕ) (mounted : MountedState) → IsOfSomeVolume uuid log mounted
     → mounted.volume.steps ≤ most_steps
-mounted_has_room uuid log mounted (geometry, epoch, log_is, limits, is) = (let steps = is.steps in omega (arith, steps))
+mounted_has_room uuid log mounted (geometry, chain, epoch, log_is, limits, is) = (let steps = is.steps in omega (arith, steps))
 
 -- ---- calls of the owner
 

@@ -13,7 +13,7 @@ use Rattle.vol_check.specs.Report.{IsReport, IsCheckRefused}
 use Rattle.vol_check.specs.declared.error.CheckError.{CheckError}
 use Rattle.vol_check.specs.declared.error.CheckError.TheVariants as check_errors
 use Rattle.vol_check.specs.declared.report.CheckReport.{CheckReport}
-use Rattle.vol_check.specs.declared.report.Missing.{Missing as MissingObject}
+use Rattle.vol_check.specs.declared.report.ObjectOfLevel.{ObjectOfLevel}
 use Rattle.volume_commands.specs.declared.error.CommandError.{CommandError}
 use Rattle.volume_commands.specs.declared.error.CommandError.TheVariants as errors
 use Rattle.volume_commands.specs.declared.report.Report.{Report}
@@ -34,7 +34,7 @@ abbrev pub number_words : List ℕ → List ℕ
 number_words = flat_map (λ number. codes " " ++ decimal number)
 
 -- the level and the number of each object, likewise
-abbrev pub missing_words : List MissingObject → List ℕ
+abbrev pub missing_words : List ObjectOfLevel → List ℕ
 missing_words = flat_map (λ missing. codes " " ++ decimal missing.level ++ codes ":" ++ decimal missing.number)
 
 -- the seven lines of what was found
@@ -71,7 +71,7 @@ TellsChecked (Err errors.OutOfMemory) old new = new ≡ old
 -- ---- what is done
 
 -- how a run ends that found these objects missing
-abbrev pub ended_by : List MissingObject → Report
+abbrev pub ended_by : List ObjectOfLevel → Report
 ended_by [] = Done
 ended_by (first ∷ rest) = Missing
 

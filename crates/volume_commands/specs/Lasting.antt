@@ -18,7 +18,7 @@ use Rattle.object_stream.specs.Landed.{Numbers}
 use Rattle.plain_disk.specs.declared.log.PlainCommit.{PlainCommit}
 use Rattle.plain_disk.specs.State.{PlainState, created_volume, history_length}
 use Rattle.plain_disk.specs.Stops.{mounted_from, mounted_on}
-use Rattle.object_recovery.specs.Checkpoints.{expected_of}
+use Rattle.refine_mount.specs.Found.{expected_for}
 use Rattle.refine_mount.specs.Mounted.{sizes_with}
 use Rattle.vol_recover.specs.Creating.{IsNewTo}
 use Rattle.vol_recover.specs.Standing.{MayMountWith, MayMountWithout, StopMayMount}
@@ -34,7 +34,7 @@ use Rattle.volume_commands.specs.Serving.{ServesOn}
 
 -- which of a plain volume's objects have landed, of these
 abbrev pub landed_of : (uuid : List ℕ) → PlainState → Objects → Numbers
-landed_of uuid plain objects = landed_in objects (expected_of uuid plain.geometry)
+landed_of uuid plain objects = landed_in objects (expected_for uuid plain)
 
 -- a mount without the cache may be made, on a log of so many sectors, and what it makes has each entry
 abbrev pub ComesBackWithout : (uuid : List ℕ) → (epoch : ℕ) → PlainState → Objects → (log : ℕ) → Type 0

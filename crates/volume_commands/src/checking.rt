@@ -18,7 +18,7 @@ use lsvd_objstore::Store;
 use refusals::Refusal;
 use std::alloc::{AllocError, Global};
 use uuid::Uuid;
-use vol_check::{CheckReport, Missing, check};
+use vol_check::{CheckReport, ObjectOfLevel, check};
 
 /// Checks what the store has of the volume that is asked for, and writes seven lines to `out`: its uuid, the
 /// checkpoints that holds name, its checkpoints, its last object, and the objects that are stranded, unneeded
@@ -121,7 +121,7 @@ fn check_in<S: Store, O: Sink>(
 }
 
 // How a run ends that found these objects missing.
-fn ended_by(missing: &[Missing]) -> Report
+fn ended_by(missing: &[ObjectOfLevel]) -> Report
     ensures { result ≡ ended_by missing.now }
 {
     if missing.is_empty() {
@@ -163,7 +163,7 @@ fn add_numbers(text: &mut Vec<u8>, word: &str, numbers: &[u64]) -> Result<(), Al
 }
 
 // Adds a word and the level and the number of each of these objects, each after a space.
-fn add_missing(text: &mut Vec<u8>, word: &str, missing: &[Missing]) -> Result<(), AllocError>
+fn add_missing(text: &mut Vec<u8>, word: &str, missing: &[ObjectOfLevel]) -> Result<(), AllocError>
     ensures { OnOk result (text.new.items ≡ text.old.items ++ word.now ++ missing_words missing.now) }
 {
     add(text, word)?;

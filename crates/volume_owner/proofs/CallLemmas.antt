@@ -91,7 +91,7 @@ pub nothing_call : {R : Type 0} (state : R → ReceiptState) (most : ℕ) (volum
 nothing_call state most volume store = quiet_call state most [] volume volume store (no_acts state (moment_of volume store))
     (record {
       adds = λ plain shows. (plain, shows, goes_on_nothing plain);
-      sizes = record { geometry = refl; uuid = refl };
+      sizes = record { geometry = refl; uuid = refl; ancestors = refl };
       own = λ owner own. own;
       steps = omega arith;
     }) refl

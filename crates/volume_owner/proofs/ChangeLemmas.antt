@@ -10,7 +10,7 @@ use Rattle.std.proofs.lemmas.List.Folds.{list_any-append}
 use Rattle.std.proofs.lemmas.List.Elements.{All-head, All-tail}
 use Rattle.lsvd_names.specs.Names.{numbered_name}
 use Rattle.lsvd_objstore.specs.Objects.{Objects, found}
-use Rattle.object_recovery.specs.Checkpoints.{expected_of}
+use Rattle.refine_mount.specs.Found.{expected_for}
 use Rattle.object_uploads.specs.Changes.{IsOut}
 use Rattle.plain_disk.specs.State.{PlainState}
 use Rattle.plain_disk.specs.Removals.{has, is_removable, to_remove}
@@ -160,7 +160,7 @@ module _ (uuid : List ℕ) (old : VolumeState) (objects : Objects) (plain after 
   pub taken_step : (n : ℕ) (bytes : List ℕ) → after.window ≡ marked n true plain.window
       → after.given_out ≡ plain.given_out → after.removed ≡ plain.removed
       → list_any (has_number n) plain.window.objects ≡ true → HasBytesOf old n bytes
-      → IsObjectOf (expected_of uuid plain.geometry) plain n bytes → IsObjectStep uuid old objects plain after
+      → IsObjectOf (expected_for uuid plain) plain n bytes → IsObjectStep uuid old objects plain after
   taken_step n bytes window given_out removed open_ out object =
       changes n
       (λ k other. record {

@@ -16,7 +16,7 @@ use Rattle.plain_disk.specs.declared.event.PlainEvent.TheVariants.{Write, Zero, 
 use Rattle.plain_disk.specs.declared.event.PlainEvent.TheVariants.{JobFailed, SealCheckpoint, TakeRemove}
 use Rattle.plain_disk.specs.declared.event.PlainEvent.TheVariants.{RemoveDone, RemoveFailed, PlanCopy, SealCopy, DropPlan}
 use Rattle.plain_disk.specs.declared.event.PlainEvent.TheVariants.{Status}
-use Rattle.plain_disk.specs.State.{PlainState, OpensBlank}
+use Rattle.plain_disk.specs.State.{PlainState, OpensFirst}
 use Rattle.plain_disk.specs.Removals.{has, to_remove, with_removal, is_out}
 use Rattle.plain_disk.specs.Reads.{are_pinned}
 use Rattle.plain_disk.specs.Objects.{has_unsealed, is_busy}
@@ -37,20 +37,20 @@ abbrev pub IsGivenOut : PlainState → Type 0
 IsGivenOut plain = IfSome plain.removal (λ number. has plain.given_out number ≡ true)
 
 pub record LeavesObjects (plain after : PlainState) : Type 0 where
-  pub blank : OpensBlank plain → OpensBlank after
+  pub opens : OpensFirst plain → OpensFirst after
   pub seals : SealsCheckpoints plain → SealsCheckpoints after
   pub out : IsGivenOut plain → IsGivenOut after
   pub held : after.held ≡ plain.held
-  pub objects : OpensBlank plain → (volume : Expected) (n : ℕ) (bytes : List ℕ) → IsObjectOf volume plain n bytes
+  pub objects : OpensFirst plain → (volume : Expected) (n : ℕ) (bytes : List ℕ) → IsObjectOf volume plain n bytes
       → IsObjectOf volume after n bytes
 
 pub nothing_leaves : (plain : PlainState) → LeavesObjects plain plain
 nothing_leaves plain = record {
-  blank = λ is. is;
+  opens = λ is. is;
   seals = λ is. is;
   out = λ is. is;
   held = refl;
-  objects = λ blank volume n bytes is. is;
+  objects = λ opens volume n bytes is. is;
 }
 
 -- ---- what is out
@@ -143,13 +143,13 @@ event_held plain Status = refl
 -- ---- the whole
 
 -- what calls the device passes does not matter to what a plain volume opens with, nor to its objects
-blank_passing : (left : Fuse) (plain : PlainState) → OpensBlank plain → OpensBlank (passing left plain)
-blank_passing left plain is = record {
+opens_passing : (left : Fuse) (plain : PlainState) → OpensFirst plain → OpensFirst (passing left plain)
+opens_passing left plain is = record {
   number = is.number;
   end = is.end;
-  opening = is.opening;
-  owned = is.owned;
   payloads = is.payloads;
+  inherited = is.inherited;
+  zeros = is.zeros;
 }
 
 seals_passing : (left : Fuse) (plain : PlainState) → SealsCheckpoints plain → SealsCheckpoints (passing left plain)
@@ -168,6 +168,7 @@ object_passing left plain volume n bytes (inl is) = inl (record {
   rows = is.rows;
   is_checkpoint = is.is_checkpoint;
   says = is.says;
+  places = is.places;
 })
 object_passing left plain volume n bytes (inr is) = inr (record {
   past = is.past;
@@ -185,11 +186,11 @@ event_leaves left now plain event valid =
     let after : PlainState = plain_after event ready in
     let is = passing_keeps left plain valid in
     record {
-      blank = λ blank. blank_passing now after (events_keep_opening ready event (blank_passing left plain blank));
+      opens = λ opens. opens_passing now after (events_keep_opening ready event (opens_passing left plain opens));
       seals = λ seals. seals_passing now after (events_seal ready event is (seals_passing left plain seals));
       out = λ given. event_out ready event given;
       held = event_held ready event;
-      objects = λ blank volume n bytes object. object_passing now after volume n bytes
-          (events_keep_object volume ready n bytes event is (blank_passing left plain blank)
+      objects = λ opens volume n bytes object. object_passing now after volume n bytes
+          (events_keep_object volume ready n bytes event is (opens_passing left plain opens)
           (object_passing left plain volume n bytes object));
     }

@@ -1,6 +1,6 @@
 -- A store that stands goes on standing over each act of a call.
 use Rattle.std.proofs.Common.{◌≡◌, ℕ, nat_eq, ◌⊎◌, inl, inr, Bool, true, false, cond, List, []}
-use Rattle.std.proofs.Common.{refl, sym, ◌∙◌, ap, subst}
+use Rattle.std.proofs.Common.{refl, sym, ◌∙◌, ap, subst, length}
 use Rattle.std.specs.Prelude.{Option, Some, None, IfSome}
 use Rattle.std.specs.List.{list_any}
 use Rattle.std.proofs.lemmas.Bool.{cases_eq, eq-eqb, ne_eqb}
@@ -9,14 +9,14 @@ use Rattle.lsvd_objstore.specs.Objects.{Objects, found}
 use Rattle.object_format.specs.declared.expected.Expected.{Expected}
 use Rattle.object_recovery.specs.Checkpoints.{expected_of}
 use Rattle.object_uploads.specs.Changes.{index_of}
-use Rattle.plain_disk.specs.State.{PlainState, OpensBlank}
+use Rattle.plain_disk.specs.State.{PlainState, OpensFirst}
 use Rattle.plain_disk.specs.Removals.{has}
 use Rattle.plain_disk.specs.Found.{SealsCheckpoints}
 use Rattle.stopped_volume.specs.Store.{PutState, MayHoldPut}
 use Rattle.stopped_volume.specs.Store.PutState.{Acknowledged, GivenOut, Begun, NotBegun}
 use Rattle.stopped_volume.specs.Super.{HasVolume}
-use Rattle.refine_mount.specs.Found.{HasHolds}
-use Rattle.refine_store.specs.Puts.{IsObjectOf, state_of_put, AreBytesOfPut}
+use Rattle.refine_mount.specs.Found.{expected_for, HasHolds}
+use Rattle.refine_store.specs.Puts.{Inherits, IsObjectOf, state_of_put, AreBytesOfPut}
 use Rattle.refine_store.specs.Stored.{StoreStands}
 use Rattle.upload_window.specs.Window.{WindowState, has_number}
 use Rattle.vol_core.specs.Volume.{VolumeState}
@@ -39,7 +39,7 @@ pub record SameAt (plain after : PlainState) (n : ℕ) : Type 0 where
 pub data IsChangeAt (uuid : List ℕ) (old : VolumeState) (objects : Objects) (plain after : PlainState) (n : ℕ) : Type 0 where
   begins : (bytes : List ℕ) → has_put after n ≡ has_put plain n → state_of_put after n ≡ Begun
       → list_any (has_number n) plain.window.objects ≡ true → HasBytesOf old n bytes
-      → IsObjectOf (expected_of uuid plain.geometry) plain n bytes → IsChangeAt uuid old objects plain after n
+      → IsObjectOf (expected_for uuid plain) plain n bytes → IsChangeAt uuid old objects plain after n
   ends : (bytes : List ℕ) → has_put after n ≡ has_put plain n → state_of_put after n ≡ Acknowledged → state_of_put plain n ≡ Begun
       → HasBytesOf old n bytes → found objects (numbered_name uuid n) ≡ Some bytes → IsChangeAt uuid old objects plain after n
   seals : has_put plain n ≡ false → state_of_put after n ≡ NotBegun → IsChangeAt uuid old objects plain after n
@@ -71,7 +71,9 @@ changed_other n number put puts other = ap (λ b. cond b put (puts number)) (ne_
 -- what a step leaves of a plain volume as far as a store stands for it
 pub record StepLeaves (plain after : PlainState) : Type 0 where
   pub geometry : after.geometry ≡ plain.geometry
-  pub blank : OpensBlank after
+  pub chain : after.chain ≡ plain.chain
+  pub opens : OpensFirst after
+  pub inherits : (uuid : List ℕ) (objects : Objects) → Inherits uuid plain objects → Inherits uuid after objects
   pub seals : SealsCheckpoints after
   pub out : IfSome after.removal (λ number. has after.given_out number ≡ true)
   pub held : after.held ≡ plain.held
@@ -80,19 +82,24 @@ pub record StepLeaves (plain after : PlainState) : Type 0 where
 module _ (uuid : List ℕ) (epoch : ℕ) (plain after : PlainState) (old new : VolumeState) (objects : Objects)
     (shows : Shows old plain) (shown : Shows new after) (bytes_stay : KeepsBytes old new)
     (stands : StoreStands uuid epoch plain old.objects.uploads objects) (leaves : StepLeaves plain after) where
-  volume_is : expected_of uuid after.geometry ≡ expected_of uuid plain.geometry
-  volume_is = ap (expected_of uuid) leaves.geometry
+  volume_is : expected_for uuid after ≡ expected_for uuid plain
+  volume_is =
+      ap (λ g. expected_of uuid g (length after.chain)) leaves.geometry
+      ∙ ap (λ c. expected_of uuid plain.geometry (length c)) leaves.chain
 
   described : IsDescribed uuid epoch after objects
   described =
       let had = is_described uuid epoch plain old.objects.uploads objects stands in
       record {
-        described = subst (λ g. HasVolume uuid g epoch objects) (sym leaves.geometry) had.described;
-        blank = leaves.blank;
+        described =
+            subst (λ g. HasVolume uuid g after.chain epoch objects) (sym leaves.geometry)
+            (subst (λ c. HasVolume uuid plain.geometry c epoch objects) (sym leaves.chain) had.described);
+        opens = leaves.opens;
+        inherits = leaves.inherits uuid objects had.inherits;
         seals = leaves.seals;
         holds =
             subst (λ v. HasHolds v after.held objects) (sym volume_is)
-            (subst (λ kept. HasHolds (expected_of uuid plain.geometry) kept objects) (sym leaves.held) had.holds);
+            (subst (λ kept. HasHolds (expected_for uuid plain) kept objects) (sym leaves.held) had.holds);
         out = leaves.out;
       }
 
@@ -103,14 +110,14 @@ module _ (uuid : List ℕ) (epoch : ℕ) (plain after : PlainState) (old new : V
   new_open : (n : ℕ) → list_any (has_number n) after.window.objects ≡ true → IsOnItsWay new n
   new_open n open_ = ap (λ (w : WindowState). list_any (has_number n) w.objects) shown.objects.window ∙ open_
 
-  object_stays : (n : ℕ) (bytes : List ℕ) → IsObjectOf (expected_of uuid plain.geometry) plain n bytes
-      → IsObjectOf (expected_of uuid after.geometry) after n bytes
+  object_stays : (n : ℕ) (bytes : List ℕ) → IsObjectOf (expected_for uuid plain) plain n bytes
+      → IsObjectOf (expected_for uuid after) after n bytes
   object_stays n bytes is =
-      subst (λ v. IsObjectOf v after n bytes) (sym volume_is) (leaves.objects (expected_of uuid plain.geometry) n bytes is)
+      subst (λ v. IsObjectOf v after n bytes) (sym volume_is) (leaves.objects (expected_for uuid plain) n bytes is)
 
   known_stays : (state : PutState) (n : ℕ) (bytes : List ℕ)
-      → AreBytesOfPut state (expected_of uuid plain.geometry) plain n bytes
-      → AreBytesOfPut state (expected_of uuid after.geometry) after n bytes
+      → AreBytesOfPut state (expected_for uuid plain) plain n bytes
+      → AreBytesOfPut state (expected_for uuid after) after n bytes
   known_stays Acknowledged n bytes known = object_stays n bytes known
   known_stays GivenOut n bytes known = object_stays n bytes known
   known_stays Begun n bytes known = object_stays n bytes known
@@ -132,7 +139,7 @@ module _ (uuid : List ℕ) (epoch : ℕ) (plain after : PlainState) (old new : V
   put_stays n put same had =
       let was : PutState = state_of_put plain n in
       let back = sym same in
-      let v : Expected = expected_of uuid after.geometry in
+      let v : Expected = expected_for uuid after in
       record {
         bytes = had.bytes;
         put_is = had.put_is ∙ ap (λ s. Some (s, had.bytes)) back;
@@ -195,12 +202,12 @@ module _ (uuid : List ℕ) (epoch : ℕ) (plain after : PlainState) (old new : V
 
     -- a put that has come so far, by the put before it
     begun_put : (bytes : List ℕ) → state_of_put after n ≡ Begun → list_any (has_number n) plain.window.objects ≡ true
-        → HasBytesOf old n bytes → IsObjectOf (expected_of uuid plain.geometry) plain n bytes
+        → HasBytesOf old n bytes → IsObjectOf (expected_for uuid plain) plain n bytes
         → PutStands uuid plain old.objects.uploads objects n (stands.puts n)
         → PutStands uuid after new.objects.uploads objects n (Some (Begun, bytes))
     begun_put bytes now open_ out object was =
         let back = sym now in
-        let v : Expected = expected_of uuid after.geometry in
+        let v : Expected = expected_for uuid after in
         record {
           bytes = bytes;
           put_is = ap (λ s. Some (s, bytes)) back;
@@ -218,17 +225,17 @@ module _ (uuid : List ℕ) (epoch : ℕ) (plain after : PlainState) (old new : V
         → PutStands uuid after new.objects.uploads objects n (Some (Acknowledged, bytes))
     done_put bytes now begun out there was =
         let back = sym now in
-        let v : Expected = expected_of uuid after.geometry in
+        let v : Expected = expected_for uuid after in
         let sealed = subst (λ s. IsSealedIfBegun s old.objects.uploads n was.bytes) begun was.sealed in
         let same : was.bytes ≡ bytes =
         bytes_at_are (index_of old.objects.uploads n) old.objects.uploads.queue.sealed was.bytes bytes sealed out in
-        let object : IsObjectOf (expected_of uuid plain.geometry) plain n was.bytes =
-        subst (λ s. AreBytesOfPut s (expected_of uuid plain.geometry) plain n was.bytes) begun was.known in
+        let object : IsObjectOf (expected_for uuid plain) plain n was.bytes =
+        subst (λ s. AreBytesOfPut s (expected_for uuid plain) plain n was.bytes) begun was.known in
         record {
           bytes = bytes;
           put_is = ap (λ s. Some (s, bytes)) back;
           known = subst (λ s. AreBytesOfPut s v after n bytes) back
-              (object_stays n bytes (subst (λ b. IsObjectOf (expected_of uuid plain.geometry) plain n b) same object));
+              (object_stays n bytes (subst (λ b. IsObjectOf (expected_for uuid plain) plain n b) same object));
           held = subst (λ s. MayHoldPut s bytes (found objects (numbered_name uuid n))) back there;
           sealed = subst (λ s. IsSealedIfBegun s new.objects.uploads n bytes) back tt;
         }
@@ -237,7 +244,7 @@ module _ (uuid : List ℕ) (epoch : ℕ) (plain after : PlainState) (old new : V
         → PutStands uuid after new.objects.uploads objects n (Some (NotBegun, []))
     sealed_put now none =
         let back = sym now in
-        let v : Expected = expected_of uuid after.geometry in
+        let v : Expected = expected_for uuid after in
         record {
           bytes = [];
           put_is = ap (λ s. Some (s, [])) back;
@@ -249,12 +256,12 @@ module _ (uuid : List ℕ) (epoch : ℕ) (plain after : PlainState) (old new : V
     -- one that was acknowledged may be gone, once it was given out
     given_put : (state : PutState) (bytes : List ℕ) → state_of_put after n ≡ GivenOut
         → ((state ≡ Acknowledged) ⊎ (state ≡ GivenOut))
-        → AreBytesOfPut state (expected_of uuid plain.geometry) plain n bytes
+        → AreBytesOfPut state (expected_for uuid plain) plain n bytes
         → MayHoldPut state bytes (found objects (numbered_name uuid n))
         → PutStands uuid after new.objects.uploads objects n (Some (GivenOut, bytes))
     given_put state bytes now is known held =
         let back = sym now in
-        let v : Expected = expected_of uuid after.geometry in
+        let v : Expected = expected_for uuid after in
         record {
           bytes = bytes;
           put_is = ap (λ s. Some (s, bytes)) back;
@@ -265,8 +272,8 @@ module _ (uuid : List ℕ) (epoch : ℕ) (plain after : PlainState) (old new : V
         }
       where
         object_of : (state : PutState) → ((state ≡ Acknowledged) ⊎ (state ≡ GivenOut))
-            → AreBytesOfPut state (expected_of uuid plain.geometry) plain n bytes
-            → IsObjectOf (expected_of uuid plain.geometry) plain n bytes
+            → AreBytesOfPut state (expected_for uuid plain) plain n bytes
+            → IsObjectOf (expected_for uuid plain) plain n bytes
         object_of Acknowledged is known = known
         object_of GivenOut is known = known
         object_of Begun (inl is) known = let bad : ⊥ = cc in absurd bad

@@ -4,16 +4,16 @@ use Rattle.std.proofs.Common.{List, [], ◌∷◌, sym, ◌∙◌, refl, ap, sub
 use Rattle.std.specs.Prelude.{Option, Some, None, IfSome}
 use Rattle.std.proofs.lemmas.Bool.{cases_eq, both_ways}
 use Rattle.std.proofs.lemmas.Bool.Decides.{nat_tests}
-use Rattle.lsvd_base.specs.declared.geometry.Geometry.{Geometry}
 use Rattle.lsvd_names.specs.declared.name.ObjName.{ObjName}
 use Rattle.lsvd_names.specs.declared.name.NameKind.{NameKind}
 use Rattle.lsvd_names.specs.Names.{super_name, epoch_name, numbered_name, hold_name}
 use Rattle.lsvd_objstore.specs.Objects.{Objects, found, IsPut, IsRemoved, KeepsOthers}
-use Rattle.object_recovery.specs.Checkpoints.{expected_of}
+use Rattle.stopped_volume.specs.Ancestors.{KeepsOtherVolumes}
+use Rattle.stopped_volume.proofs.InheritedLemmas.{inherited_is_kept}
 use Rattle.object_uploads.specs.State.{SealedState, UploadsState}
 use Rattle.object_uploads.specs.Queue.{HasBytesAt}
 use Rattle.object_uploads.specs.Changes.{index_of}
-use Rattle.plain_disk.specs.State.{PlainState, OpensBlank, frontier_of}
+use Rattle.plain_disk.specs.State.{PlainState, OpensFirst, stream_in, frontier_of}
 use Rattle.plain_disk.specs.Removals.{has}
 use Rattle.plain_disk.specs.Found.{SealsCheckpoints}
 use Rattle.plain_disk.specs.Valid.{IsPlainVolume}
@@ -21,10 +21,10 @@ use Rattle.stopped_volume.specs.Holds.{IsHeld}
 use Rattle.stopped_volume.specs.Store.{PutState, MayHoldPut}
 use Rattle.stopped_volume.specs.Store.PutState.{Acknowledged, GivenOut, Begun, NotBegun}
 use Rattle.stopped_volume.specs.Super.{HasVolume}
-use Rattle.refine_mount.specs.Found.{HasHolds}
-use Rattle.refine_store.specs.Puts.{state_of_put, AreBytesOfPut}
+use Rattle.refine_mount.specs.Found.{expected_for, HasHolds}
+use Rattle.refine_store.specs.Puts.{Inherits, state_of_put, AreBytesOfPut}
 use Rattle.refine_store.specs.Stored.{StoreStands}
-use Rattle.refine_store.proofs.HoldLemmas.{KeepsHolds, holds_stay, held_by_hold}
+use Rattle.refine_store.proofs.HoldLemmas.{holds_stay, held_by_hold}
 
 -- ---- which objects there are
 
@@ -102,7 +102,7 @@ pub record PutStands (uuid : List ℕ) (plain : PlainState) (uploads : UploadsSt
     (put : Option (PutState × List ℕ)) : Type 0 where
   pub bytes : List ℕ
   pub put_is : put ≡ Some (state_of_put plain number, bytes)
-  pub known : AreBytesOfPut (state_of_put plain number) (expected_of uuid plain.geometry) plain number bytes
+  pub known : AreBytesOfPut (state_of_put plain number) (expected_for uuid plain) plain number bytes
   pub held : MayHoldPut (state_of_put plain number) bytes (found objects (numbered_name uuid number))
   pub sealed : IsSealedIfBegun (state_of_put plain number) uploads number bytes
 
@@ -134,10 +134,11 @@ some_not_none put is = cc
 
 -- what a store has of a volume beside its objects
 pub record IsDescribed (uuid : List ℕ) (epoch : ℕ) (plain : PlainState) (objects : Objects) : Type 0 where
-  pub described : HasVolume uuid plain.geometry epoch objects
-  pub blank : OpensBlank plain
+  pub described : HasVolume uuid plain.geometry plain.chain epoch objects
+  pub opens : OpensFirst plain
+  pub inherits : Inherits uuid plain objects
   pub seals : SealsCheckpoints plain
-  pub holds : HasHolds (expected_of uuid plain.geometry) plain.held objects
+  pub holds : HasHolds (expected_for uuid plain) plain.held objects
   pub out : IfSome plain.removal (λ number. has plain.given_out number ≡ true)
 
 module _ (uuid : List ℕ) (epoch : ℕ) (plain : PlainState) (uploads : UploadsState) (objects : Objects) where
@@ -147,7 +148,8 @@ module _ (uuid : List ℕ) (epoch : ℕ) (plain : PlainState) (uploads : Uploads
     pub is_described : IsDescribed uuid epoch plain objects
     is_described = record {
       described = stands.left.described;
-      blank = stands.left.blank;
+      opens = stands.left.opens;
+      inherits = stands.left.inherits;
       seals = stands.left.seals;
       holds = stands.left.holds;
       out = stands.out;
@@ -230,7 +232,8 @@ module _ (uuid : List ℕ) (epoch : ℕ) (plain : PlainState) (uploads : Uploads
       };
       left = record {
         described = described.described;
-        blank = described.blank;
+        opens = described.opens;
+        inherits = described.inherits;
         seals = described.seals;
         holds = described.holds;
         held = record {
@@ -277,9 +280,14 @@ module _ (uuid : List ℕ) (n : ℕ) (old new : Objects) (others : KeepsOthers (
   other_object : (number : ℕ) → (number ≡ n → ⊥) → found new (numbered_name uuid number) ≡ found old (numbered_name uuid number)
   other_object number other = others (numbered_name uuid number) (other_number uuid number n other)
 
+  -- and each of another volume
+  other_volumes : KeepsOtherVolumes uuid old new
+  other_volumes name apart = others name (λ same. apart (ap (λ (other : ObjName). other.uuid) same))
+
   -- it leaves what the store says of the volume
-  change_keeps_volume : (geometry : Geometry) (epoch : ℕ) → HasVolume uuid geometry epoch old → HasVolume uuid geometry epoch new
-  change_keeps_volume geometry epoch has_ = record {
+  change_keeps_volume : (plain : PlainState) (epoch : ℕ) → HasVolume uuid plain.geometry plain.chain epoch old
+      → HasVolume uuid plain.geometry plain.chain epoch new
+  change_keeps_volume plain epoch has_ = record {
     volume = has_.volume;
     says = record {
       bytes = has_.says.bytes;
@@ -287,7 +295,7 @@ module _ (uuid : List ℕ) (n : ℕ) (old new : Objects) (others : KeepsOthers (
       is_super = has_.says.is_super;
     };
     sizes = has_.sizes;
-    alone = has_.alone;
+    chain_is = has_.chain_is;
     epochs = record {
       bytes = has_.epochs.bytes;
       present = others (epoch_name uuid epoch) (epoch_is_other uuid epoch n) ∙ has_.epochs.present;
@@ -304,7 +312,7 @@ module _ (uuid : List ℕ) (n : ℕ) (old new : Objects) (others : KeepsOthers (
 
   -- so the store stands where the put of that object may have what is there now
   change_stands : (epoch : ℕ) (plain : PlainState) (uploads : UploadsState)
-      → ((k : ℕ) → IsHeld (expected_of uuid plain.geometry) old k → k ≡ n → ⊥)
+      → ((k : ℕ) → IsHeld (expected_for uuid plain) old k → k ≡ n → ⊥)
       → (stands : StoreStands uuid epoch plain uploads old)
       → (has_put plain n ≡ false → found new (numbered_name uuid n) ≡ None)
       → ((bytes : List ℕ) → stands.puts n ≡ Some (state_of_put plain n, bytes)
@@ -315,11 +323,15 @@ module _ (uuid : List ℕ) (n : ℕ) (old new : Objects) (others : KeepsOthers (
   change_stands epoch plain uploads not_held stands if_none changes =
       let was = is_described uuid epoch plain uploads old stands in
       stands_by_each uuid epoch plain uploads new stands.puts (record {
-        described = change_keeps_volume plain.geometry epoch was.described;
-        blank = was.blank;
+        described = change_keeps_volume plain epoch was.described;
+        opens = was.opens;
+        inherits =
+            inherited_is_kept uuid plain.chain (stream_in plain).opening
+            (stream_in plain).inherited plain.opening old new other_volumes
+            was.inherits;
         seals = was.seals;
         holds =
-            holds_stay (expected_of uuid plain.geometry) plain.held old new (record {
+            holds_stay (expected_for uuid plain) plain.held old new (record {
               names = λ k. others (hold_name uuid k) (hold_is_other uuid k n);
               checkpoints = λ k held. other_object k (not_held k held);
             }) was.holds;
@@ -386,7 +398,7 @@ pub put_stands_still : (uuid : List ℕ) (epoch n : ℕ) (bytes : List ℕ) (pla
 put_stands_still uuid epoch n bytes plain uploads old new valid past there begun out put stands =
     change_stands uuid n old new put.others epoch plain uploads
     (λ k held same.
-    let kept = held_by_hold (expected_of uuid plain.geometry) plain old k valid stands.left.holds held in
+    let kept = held_by_hold (expected_for uuid plain) plain old k valid stands.left.holds held in
     omega (arith, kept.acknowledged, past, same)) stands
     (λ none. (let bad : ⊥ = (let e = sym none ∙ there in cc) in absurd bad))
     (λ known is held sealed.
@@ -407,7 +419,7 @@ pub removal_stands_still : (uuid : List ℕ) (epoch n : ℕ) (plain : PlainState
 removal_stands_still uuid epoch n plain uploads old new valid out given removed stands =
     change_stands uuid n old new removed.others epoch plain uploads
     (λ k held same.
-    let kept = held_by_hold (expected_of uuid plain.geometry) plain old k valid stands.left.holds held in
+    let kept = held_by_hold (expected_for uuid plain) plain old k valid stands.left.holds held in
     both_ways (has plain.given_out k) kept.kept (ap (has plain.given_out) same ∙ out)) stands (λ none. removed.absent)
     (λ known is held sealed.
     gone_by (state_of_put plain n) known (found new (numbered_name uuid n)) given removed.absent)

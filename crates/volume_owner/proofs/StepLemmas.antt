@@ -137,7 +137,11 @@ adds_then added old mid new first second plain shows =
     (two.0, two.1, goes_on_then added plain one.0 two.0 one.2 two.2)
 
 pub same_sizes : (old mid new : VolumeState) → HasSameSizes old mid → HasSameSizes mid new → HasSameSizes old new
-same_sizes old mid new first second = record { geometry = second.geometry ∙ first.geometry; uuid = second.uuid ∙ first.uuid }
+same_sizes old mid new first second = record {
+  geometry = second.geometry ∙ first.geometry;
+  uuid = second.uuid ∙ first.uuid;
+  ancestors = second.ancestors ∙ first.ancestors;
+}
 
 pub makes_then : (m n : ℕ) (added : List Entry) (old mid new : SteppedVolume) → MakesSteps m [] old mid
     → MakesSteps n added mid new

@@ -25,7 +25,7 @@ use Rattle.plain_disk.specs.Collection.{planned_copy, with_plan, with_copy, afte
 use Rattle.plain_disk.specs.Removals.{has, to_remove, with_removal, is_out}
 use Rattle.plain_disk.specs.State.{PlainState}
 use Rattle.plain_disk.specs.Step.{plain_reply, plain_after}
-use Rattle.refine_store.specs.Puts.{IsObjectOf}
+use Rattle.refine_store.specs.Puts.{Inherits, IsObjectOf}
 use Rattle.refine_store.specs.Stored.{StoreStands}
 use Rattle.stopped_volume.specs.Store.{TellsBytes}
 use Rattle.refine_store.proofs.JobLemmas.{job_is_object}
@@ -200,7 +200,9 @@ module _ {R : Type 0} (state : R → ReceiptState) (reply : Reply R) (old new : 
       let object = job_is_object shows.data_at old.objects plain n job order shows.valid shows.objects
       (omega (arith, within.0, below)) (omega (arith, within.1, last)) alike is_job in
       taken_step uuid old objects plain _ n job.bytes refl refl refl open_ is_job.bytes
-      (subst (λ g. IsObjectOf (expected_of uuid g) plain n job.bytes) shows.objects.geometry object)
+      (subst (λ count. IsObjectOf (expected_of uuid plain.geometry count) plain n job.bytes) shows.objects.ancestors
+      (subst (λ g. IsObjectOf
+      (expected_of uuid g old.objects.uploads.ancestors) plain n job.bytes) shows.objects.geometry object))
 
   done_by : (objects : Objects) (left : Fuse) (job : JobState) (receipt : ReceiptState) (put : Option ℕ)
       → IsOfDonePut old job receipt put
@@ -427,11 +429,13 @@ leaves_by uuid epoch added plain after volume objects goes leaves stands =
     let was = is_described uuid epoch plain volume.objects.uploads objects stands in
     record {
       geometry = ap (λ (p : PlainState). p.geometry) goes.opens;
-      blank = leaves.blank was.blank;
+      chain = ap (λ (p : PlainState). p.chain) goes.opens;
+      opens = leaves.opens was.opens;
+      inherits = λ uuid objects. subst (λ (p : PlainState). Inherits uuid p objects) (sym goes.opens);
       seals = leaves.seals was.seals;
       out = leaves.out was.out;
       held = leaves.held;
-      objects = leaves.objects was.blank;
+      objects = leaves.objects was.opens;
     }
 
 step_keeps : {R : Type 0} (state : R → ReceiptState) → TellsBytes state → (event : Event R) (reply : Reply R) (old new : Moment)

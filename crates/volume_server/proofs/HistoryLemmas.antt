@@ -38,7 +38,7 @@ adds_more xs ys old mid new first second plain shows =
 pub grows_nothing : {R : Type 0} (state : R → ReceiptState) (moment : Moment) → Grows state [] moment moment
 grows_nothing state moment = record {
   adds = λ plain shows. (plain, shows, goes_on_nothing plain);
-  sizes = record { geometry = refl; uuid = refl };
+  sizes = record { geometry = refl; uuid = refl; ancestors = refl };
   own = λ owner own. own;
   store = becomes_same moment.volume.volume.objects.uploads.uuid moment.store.objects;
   stands = λ tells. keeps_nothing moment;

@@ -20,7 +20,7 @@ use Rattle.object_recovery.proofs.adoption.adopt_all.Goals as goal
 pub loop-reached-init : goal.loop-reached-init
 loop-reached-init g c = record {
   list = c.requires.list;
-  places = c.requires.places;
+  places = λ inside. inside;
   from = omega arith;
   same = refl;
   streams = λ tells. told_same (g.S.Store.state c.args.store.now).objects (expected_of_volume c.args.log.now) c.args.log.now;
@@ -43,30 +43,34 @@ loop-reached-preserved g c =
     let adopts : AdoptsNext Tells state.objects old new = rw c.in-Adopted.is at c.in_ok-adopt_next.ensures.next in
     let here = subst (λ (s : StoreState). AdoptsNext Tells s.objects old new) before.same adopts in
     let is = before.list in
-    let of_volume = sym (same_volume begun old is.uuid_is is.geometry_is) in
+    let of_volume = sym (same_volume begun old is.uuid_is is.ancestors_are is.geometry_is) in
     let next : new.uploads.window.last ≡ old.uploads.window.last + 1 =
     ap (λ (w : WindowState). w.last) adopts.adopted.uploads.window in
     let wide : (expected_of_volume begun).sectors < 2 ^ 64 = grind (arith, nat_tests, c.requires.limits) in
     record {
       list =
-          list_more begun.uploads.uuid begun.batch.geometry old.uploads.window.last old.uploads.queue.end adopts.end adopts.rows
+          list_more begun.uploads.uuid begun.batch.geometry begun.uploads.ancestors old.uploads.window.last
+          old.uploads.queue.end adopts.end adopts.rows
           adopts.receipt old new is adopts.adopted;
-      places =
+      places = λ inside.
           places_more old.uploads.uuid begun.batch.geometry.sectors adopts.end adopts.rows (next_of old) adopts.receipt
           old.uploads.queue new.uploads.queue
           adopts.order.known (ap (λ (sizes : Geometry). sizes.sectors) is.geometry_is) adopts.read
-          adopts.adopted.uploads.settled before.places;
+          adopts.adopted.uploads.settled (before.places inside);
       from = omega (arith, next, before.from);
       same = after ∙ before.same;
       streams = λ tells.
-          told_more told (expected_of_volume begun) Tells begun.uploads.uuid begun.batch.geometry old.uploads.queue.end begun
+          told_more told (expected_of_volume begun) Tells begun.uploads.uuid begun.batch.geometry begun.uploads.ancestors
+          old.uploads.queue.end begun
           old new wide
           of_volume is tells here (before.streams tells);
       good = λ tells.
-          told_good told (expected_of_volume begun) Tells begun.uploads.uuid begun.batch.geometry begun old new of_volume is tells
+          told_good told (expected_of_volume begun) Tells begun.uploads.uuid begun.batch.geometry begun.uploads.ancestors begun
+          old new of_volume is tells
           here (before.good tells);
       knows = λ tells.
-          told_knows told (expected_of_volume begun) Tells begun.uploads.uuid begun.batch.geometry old.uploads.queue.end begun
+          told_knows told (expected_of_volume begun) Tells begun.uploads.uuid begun.batch.geometry begun.uploads.ancestors
+          old.uploads.queue.end begun
           old new of_volume is (omega (arith, before.from, c.requires.list.frontier)) tells here (before.knows tells);
       table = table_more Tells told begun old new here before.table;
     }
@@ -76,7 +80,8 @@ loop-reached-preserved g c =
 pub returns-in-Missing-clause-places : goal.returns-in-Missing-clause-places
 returns-in-Missing-clause-places g c =
     let none = rw c.in-Missing.is at c.in_ok-adopt_next.ensures.next in
-    subst (λ (new : ObjLogState). HasPlacesInside c.args.log.now.batch.geometry.sectors new.uploads.queue) (sym none.0)
+    subst (λ (new : ObjLogState). HasPlacesInside c.args.log.now.batch.geometry.sectors c.args.log.now.uploads.queue
+    → HasPlacesInside c.args.log.now.batch.geometry.sectors new.uploads.queue) (sym none.0)
     c.loop-reached.invariant.places
 
 pub returns-in-Missing-clause-streams : goal.returns-in-Missing-clause-streams
@@ -110,7 +115,8 @@ returns-in-Missing-clause-table g c =
 pub returns-in-Left-clause-places : goal.returns-in-Left-clause-places
 returns-in-Left-clause-places g c =
     let left = rw c.in-Left.is at c.in_ok-adopt_next.ensures.next in
-    subst (λ (new : ObjLogState). HasPlacesInside c.args.log.now.batch.geometry.sectors new.uploads.queue) (sym left.0)
+    subst (λ (new : ObjLogState). HasPlacesInside c.args.log.now.batch.geometry.sectors c.args.log.now.uploads.queue
+    → HasPlacesInside c.args.log.now.batch.geometry.sectors new.uploads.queue) (sym left.0)
     c.loop-reached.invariant.places
 
 pub returns-in-Left-clause-streams : goal.returns-in-Left-clause-streams

@@ -9,9 +9,10 @@ use Rattle.object_recovery.proofs.adoption.adopt_all.Given as goal
 
 abbrev pub invariant-loop-reached : goal.invariant-loop-reached
 invariant-loop-reached g l = record {
-  list : IsListUpTo l.initial.log.uploads.uuid l.initial.log.batch.geometry l.log.uploads.window.last
-      l.log.uploads.queue.end l.log;
-  places : HasPlacesInside l.initial.log.batch.geometry.sectors l.log.uploads.queue;
+  list : IsListUpTo l.initial.log.uploads.uuid l.initial.log.batch.geometry l.initial.log.uploads.ancestors
+      l.log.uploads.window.last l.log.uploads.queue.end l.log;
+  places : HasPlacesInside l.initial.log.batch.geometry.sectors l.initial.log.uploads.queue
+      → HasPlacesInside l.initial.log.batch.geometry.sectors l.log.uploads.queue;
   from : l.initial.log.uploads.window.last ≤ l.log.uploads.window.last;
   same : g.S.Store.state l.store ≡ g.S.Store.state l.initial.store;
   streams : TellsBytes g.S.Receipt.Receipt.state

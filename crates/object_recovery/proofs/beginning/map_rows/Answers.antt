@@ -32,16 +32,19 @@ map_found-requires-clause-payload g c =
     let sector = ap (λ (p : ObjectPlace). p.sector) c.mapped_row.ensures.place in
     omega (arith, stands.in_payload, sector, c.mapped_row.ensures.sectors)
 
-pub map_found-requires-clause-own : goal.map_found-requires-clause-own
-map_found-requires-clause-own g c =
+pub map_found-requires-clause-level : goal.map_found-requires-clause-level
+map_found-requires-clause-level g c =
     let gives = rw c.in-Ok-Some.field-0-is at c.in-Ok-Some.ensures.gives in
     let names = last_names c.loop-row.rows.expected c.loop-row.rows.given c.in-Ok-Some.row gives.spelling in
     let level = ap (λ (p : ObjectPlace). p.level) c.mapped_row.ensures.place in
-    let none = ap (λ (e : Expected). e.ancestors) c.loop-row.invariant.expected ∙ c.requires.ancestors in
-    omega (arith, names.level, level, none)
+    let ancestors : c.loop-row.rows.expected.ancestors ≡ c.uploads_mut.result.now.ancestors =
+    ap (λ (e : Expected). e.ancestors) c.loop-row.invariant.expected ∙ c.requires.ancestors
+    ∙ sym c.loop-row.invariant.rows.rest.ancestors
+    ∙ ap (λ (u : UploadsState). u.ancestors) (sym c.uploads_mut.ensures.is) in
+    omega (arith, names.level, level, ancestors)
 
 pub map_found-requires-clause-known : goal.map_found-requires-clause-known
-map_found-requires-clause-known g c =
+map_found-requires-clause-known g c = λ own.
     let gives = rw c.in-Ok-Some.field-0-is at c.in-Ok-Some.ensures.gives in
     let before = c.loop-row.invariant in
     let old = c.loop-row.rows in
@@ -51,10 +54,11 @@ map_found-requires-clause-known g c =
     let given = c.requires.checkpoint in
     let all = given_more given.1 old.given old.rest rest row gives.first (before.rest given.0 given.1 given.2) in
     let number = ap (λ (p : ObjectPlace). p.number) (sym c.mapped_row.ensures.place) in
+    let level = ap (λ (p : ObjectPlace). p.level) (sym c.mapped_row.ensures.place) ∙ own in
     subst (λ (u : UploadsState). MayGain c.mapped_row.result.place.number u.queue.maps.objects) (sym c.uploads_mut.ensures.is)
     (subst (λ n. MayGain n c.loop-row.log.uploads.queue.maps.objects) number
     (next_gains given.1 old.given rest row c.args.log.now c.loop-row.log all gives.spelling.shortest stands.some given.3
-    before.rows))
+    before.rows level))
 
 pub loop-row-preserved : goal.loop-row-preserved
 loop-row-preserved g c =

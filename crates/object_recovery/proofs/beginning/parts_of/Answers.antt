@@ -11,7 +11,7 @@ use Rattle.object_recovery.proofs.beginning.parts_of.Goals as goal
 
 pub returns-then-eq-clause-parts : goal.returns-then-eq-clause-parts
 returns-then-eq-clause-parts g c =
-    let volume = expected_of c.args.uuid c.args.geometry.now in
+    let volume = expected_of c.args.uuid c.args.geometry.now c.args.ancestors in
     let receipt = g.S.Receipt.Receipt.state c.object.inside.receipt in
     let object : EarlierObject =
     record { number = c.object.inside.number; receipt = receipt; reach = c.object.inside.reach } in
@@ -28,7 +28,7 @@ returns-then-eq-clause-parts g c =
 
 pub returns-clause-parts : goal.returns-clause-parts
 returns-clause-parts g c =
-    let volume = expected_of c.args.uuid c.args.geometry.now in
+    let volume = expected_of c.args.uuid c.args.geometry.now c.args.ancestors in
     let receipt = g.S.Receipt.Receipt.state c.object.inside.receipt in
     let object : EarlierObject =
     record { number = c.object.inside.number; receipt = receipt; reach = c.object.inside.reach } in

@@ -22,8 +22,11 @@ returns-in-Ok-clause-reached g c = λ yes.
     in
     let own = ap (reached c.max-object-inside.result) c.object.view_is in
     record {
-      there = (get_or old at e, Contains-get_or old at e found.0, found.1 e);
-      reached = ap (set old at) (own ∙ same) ∙ set_reached place.number end old at e c.requires.order found.0 (found.1 e);
+      own = λ level. record {
+        there = (get_or old at e, Contains-get_or old at e found.0, found.1 e);
+        reached = ap (set old at) (own ∙ same) ∙ set_reached place.number end old at e c.requires.order found.0 (found.1 e);
+      };
+      other = λ other. absurd (other (search rules));
     }
 
 pub returns-in-Err-clause-absent : goal.returns-in-Err-clause-absent

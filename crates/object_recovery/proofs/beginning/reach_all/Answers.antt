@@ -1,7 +1,7 @@
-use Rattle.std.proofs.Common.{◌≡◌, ◌+◌, ◌++◌, ◌∷◌, [], None, Ok, map, sym, subst, ap, ◌∙◌}
+use Rattle.std.proofs.Common.{◌≡◌, ◌++◌, ◌∷◌, [], None, Ok, sym, subst, ap, ◌∙◌}
 use Rattle.ckpt_format.specs.Reading.{CheckpointReading}
-use Rattle.object_recovery.specs.Earlier.{ReachAll, NamesNone, but_reach}
-use Rattle.object_recovery.proofs.EarlierLemmas.{ascend_same, same_reached, none_same, reach_more, names_none}
+use Rattle.object_recovery.specs.Earlier.{ReachAll, NamesNone}
+use Rattle.object_recovery.proofs.EarlierLemmas.{ascend_same, same_if_own, none_same, reach_more, names_none}
 use Rattle.object_recovery.proofs.RowLemmas.{last_stands_so}
 use Rattle.object_recovery.proofs.MappedLemmas.{given_more, all_given}
 use Rattle.object_recovery.proofs.beginning.reach_all.Goals as goal
@@ -25,7 +25,7 @@ returns-then-not-reach-clause-missing g c = λ end rows is.
     let all = given_more rows given c.loop-row.rows.rest rest row gives.first (before.rest end rows is) in
     let some = (last_stands_so c.loop-row.rows.expected given row gives.spelling).some in
     subst (λ list. NamesNone list c.args.earlier.now row.place.number) (sym all)
-    (names_none given rest row c.args.earlier.now gives.spelling.shortest some
+    (names_none given rest row c.args.earlier.now gives.spelling.shortest some (c.reach.ensures.own c.if-not-reach.true)
     (none_same c.args.earlier.now c.loop-row.earlier row.place.number before.same (c.reach.ensures.absent c.if-not-reach.true)))
 
 pub loop-row-preserved : goal.loop-row-preserved
@@ -45,8 +45,7 @@ loop-row-preserved g c =
           given_more rows old.given old.rest new.rest row gives.first (before.rest end rows is)
           ∙ ap (λ list. list ++ new.rest) (sym given);
       same =
-          ap (map but_reach) reached.reached
-          ∙ same_reached row.place.number (row.place.place + row.sectors) c.loop-row.earlier ∙ before.same;
+          same_if_own row c.loop-row.earlier c.reach.new.earlier reached ∙ before.same;
       reach =
           subst (λ list. ReachAll list c.reach.new.earlier) (sym given)
           (reach_more old.given row c.loop-row.earlier c.reach.new.earlier gives.spelling.shortest some reached before.reach);

@@ -14,9 +14,10 @@ returns-in_default-2-clause-named g c = λ tells.
     let name = c.args.name.now in
     let receipt = g.S.Receipt.Receipt.state c.in-Some.receipt in
     let kind : name.kind ≡ Object = search rules in
-    let expected = expected_alone (expected_of name.uuid c.args.geometry.now) name.number in
+    let expected = expected_alone (expected_of name.uuid c.args.geometry.now c.args.ancestors) name.number in
     let none = rw c.in_default-2.is at c.in_ok-bytes.ensures.bytes in
-    no_checkpoint_found told name c.args.geometry.now receipt kind (rw c.in-Some.is at c.in_ok-receipt.ensures.found)
+    no_checkpoint_found told name c.args.geometry.now c.args.ancestors receipt kind
+    (rw c.in-Some.is at c.in_ok-receipt.ensures.found)
     (tells c.in-Some.receipt)
     (subst (λ e. MayBeCheckpoint receipt e None) {y = expected} c.expected_alone-expected.ensures none)
 
@@ -26,7 +27,7 @@ returns-in_default-end_of_rows-clause-named g c = λ tells.
     let name = c.args.name.now in
     let receipt = g.S.Receipt.Receipt.state c.in-Some.receipt in
     let kind : name.kind ≡ Object = search rules in
-    let expected = expected_alone (expected_of name.uuid c.args.geometry.now) name.number in
+    let expected = expected_alone (expected_of name.uuid c.args.geometry.now c.args.ancestors) name.number in
     let bytes = c.in-Some-2.bytes.items in
     let same = c.expected_alone-expected.ensures in
     let may = subst (λ e. MayBeCheckpoint receipt e (Some bytes)) {y = expected} same
@@ -35,6 +36,7 @@ returns-in_default-end_of_rows-clause-named g c = λ tells.
     c.as_slice.ensures.value
     (subst (λ e. (end : ℕ) (rows : List (Extent StoredPlace)) → IsCheckpoint c.as_slice.result.now e end rows → ⊥)
     {y = expected} same c.in_default-end_of_rows.ensures.none) in
-    no_checkpoint_found told name c.args.geometry.now receipt kind (rw c.in-Some.is at c.in_ok-receipt.ensures.found)
+    no_checkpoint_found told name c.args.geometry.now c.args.ancestors receipt kind
+    (rw c.in-Some.is at c.in_ok-receipt.ensures.found)
     (tells c.in-Some.receipt)
     (bytes_are_none receipt expected bytes may none)

@@ -18,12 +18,13 @@ returns-in-Some-clause-newest g c = λ tells.
     let name = c.index-names-left.result in
     let told = (g.S.Store.state c.loop-left.store).objects in
     let state = ap (λ (s : StoreState). s.objects) c.loop-left.invariant.same in
-    found_newest (g.S.Store.state c.args.store.now).objects geometry c.args.names.now index name c.in-Some.newest (omega arith)
+    found_newest (g.S.Store.state c.args.store.now).objects geometry c.args.ancestors c.args.names.now index name
+    c.in-Some.newest (omega arith)
     (sym c.index-names-left.is)
-    (subst (λ o. IfSome o (λ objects. HasNoneFrom geometry objects c.args.names.now (index + 1))) state
-    (subst (λ n. IfSome told (λ objects. HasNoneFrom geometry objects c.args.names.now n)) more
+    (subst (λ o. IfSome o (λ objects. HasNoneFrom geometry c.args.ancestors objects c.args.names.now (index + 1))) state
+    (subst (λ n. IfSome told (λ objects. HasNoneFrom geometry c.args.ancestors objects c.args.names.now n)) more
     (c.loop-left.invariant.none tells)))
-    (subst (λ o. IfSome o (λ objects. IsCheckpointNamed geometry objects name (Some c.in-Some.newest))) state
+    (subst (λ o. IfSome o (λ objects. IsCheckpointNamed geometry c.args.ancestors objects name (Some c.in-Some.newest))) state
     ((rw c.in-Some.is at c.in_ok-newest.ensures.named) tells))
 
 pub loop-left-preserved : goal.loop-left-preserved
@@ -39,10 +40,11 @@ loop-left-preserved g c =
       inside = omega (arith, c.loop-left.invariant.inside);
       same = after ∙ c.loop-left.invariant.same;
       none = λ tells.
-          subst (λ (s : StoreState). IfSome s.objects (λ objects. HasNoneFrom geometry objects c.args.names.now index))
+          subst (λ (s : StoreState). IfSome s.objects (λ objects. HasNoneFrom geometry c.args.ancestors objects
+          c.args.names.now index))
           (sym after)
-          (none_more old.objects geometry c.args.names.now index name (omega arith) (sym c.index-names-left.is)
-          (subst (λ n. IfSome old.objects (λ objects. HasNoneFrom geometry objects c.args.names.now n)) more
+          (none_more old.objects geometry c.args.ancestors c.args.names.now index name (omega arith) (sym c.index-names-left.is)
+          (subst (λ n. IfSome old.objects (λ objects. HasNoneFrom geometry c.args.ancestors objects c.args.names.now n)) more
           (c.loop-left.invariant.none tells))
           ((rw c.in_default.is at c.in_ok-newest.ensures.named) tells));
     }
@@ -51,9 +53,10 @@ pub returns-clause-none : goal.returns-clause-none
 returns-clause-none g c = λ tells is.
     let geometry = c.args.geometry.now in
     let last : c.loop-left.left ≡ 0 = omega arith in
-    found_none (g.S.Store.state c.args.store.now).objects geometry c.args.names.now
-    (subst (λ (s : StoreState). IfSome s.objects (λ objects. HasNoneFrom geometry objects c.args.names.now 0))
+    found_none (g.S.Store.state c.args.store.now).objects geometry c.args.ancestors c.args.names.now
+    (subst (λ (s : StoreState). IfSome s.objects (λ objects. HasNoneFrom geometry c.args.ancestors objects c.args.names.now 0))
     c.loop-left.invariant.same
-    (subst (λ n. IfSome (g.S.Store.state c.loop-left.store).objects (λ objects. HasNoneFrom geometry objects c.args.names.now n))
+    (subst (λ n. IfSome (g.S.Store.state c.loop-left.store).objects (λ objects. HasNoneFrom geometry c.args.ancestors objects
+    c.args.names.now n))
     last
     (c.loop-left.invariant.none tells)))

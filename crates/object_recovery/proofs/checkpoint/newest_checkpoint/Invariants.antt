@@ -9,7 +9,7 @@ invariant-loop-left g l = record {
   inside : l.left ≤ length l.names;
   same : g.S.Store.state l.store ≡ g.S.Store.state l.initial.store;
   none : TellsBytes g.S.Receipt.Receipt.state
-      → IfSome (g.S.Store.state l.store).objects (λ objects. HasNoneFrom l.geometry objects l.names l.left);
+      → IfSome (g.S.Store.state l.store).objects (λ objects. HasNoneFrom l.geometry l.ancestors objects l.names l.left);
 }
 
 abbrev pub decreases-loop-left : goal.decreases-loop-left

@@ -1,19 +1,19 @@
-use Rattle.std.proofs.Common.{◌<◌, ◌^◌, ◌∙◌, Some, None, sym, subst, ap, arith}
-use Rattle.std.specs.Prelude.{IfSome, IsTrue}
+use Rattle.std.proofs.Common.{◌<◌, ◌^◌, ◌∙◌, Some, None, length, sym, subst, ap, arith}
+use Rattle.std.specs.Prelude.{IfSome, IsTrue, Ok, Err}
 use Rattle.std.proofs.lemmas.Bool.Decides.{nat_tests}
 use Rattle.lsvd_base.specs.Limits.{is_within_limits}
-use Rattle.lsvd_base.specs.declared.geometry.Geometry.{Geometry}
 use Rattle.lsvd_fault.specs.Faults.{Counts}
 use Rattle.lsvd_objstore.specs.Store.{StoreState, OnlyCounts}
+use Rattle.stopped_volume.specs.Ancestors.{uuid_in_chain}
 use Rattle.stopped_volume.specs.Store.{TellsBytes}
 use Rattle.object_format.specs.declared.expected.Expected.{Expected}
 use Rattle.object_recovery.specs.Adoption.{IsRecoveryBegun, RefusesBeside, RecoverListOf}
 use Rattle.object_recovery.specs.Checkpoints.{expected_of, ReadCheckpoint}
 use Rattle.object_recovery.specs.Faults.{is_store_fault}
-use Rattle.object_recovery.specs.Places.{HasPlacesInside}
 use Rattle.object_recovery.proofs.FindLemmas.{same_store, passed_as}
 use Rattle.object_recovery.proofs.ListLemmas.{own_list}
-use Rattle.object_recovery.proofs.OutcomeLemmas.{BeginsAsStored, refusal_counts, told_beside, recovers_so, told_failed}
+use Rattle.object_recovery.proofs.OutcomeLemmas.{BeginsAsStored, refusal_counts, told_beside, recovers_so, stops_so}
+use Rattle.object_recovery.proofs.OutcomeLemmas.{told_failed}
 use Rattle.object_recovery.proofs.recovery.recover_list.Goals as goal
 
 -- ---- the list goes on
@@ -22,7 +22,7 @@ pub go_on-requires-clause-list : goal.go_on-requires-clause-list
 go_on-requires-clause-list g c =
     let base = c.args.base in
     let begins = rw c.in-List.is at c.in_ok-log.ensures.begins in
-    own_list c.args.uuid c.args.geometry base.number base.end c.in-List.log begins.2.list
+    own_list c.args.uuid c.args.geometry (length c.args.chain.now) base.number base.end c.in-List.log begins.2.list
 
 pub go_on-requires-clause-limits : goal.go_on-requires-clause-limits
 go_on-requires-clause-limits g c =
@@ -34,30 +34,54 @@ go_on-requires-clause-order g c =
     let begins = rw c.in-List.is at c.in_ok-log.ensures.begins in
     begins.2.order
 
-pub go_on-requires-clause-places : goal.go_on-requires-clause-places
-go_on-requires-clause-places g c =
-    let begins = rw c.in-List.is at c.in_ok-log.ensures.begins in
-    subst (λ (sizes : Geometry). HasPlacesInside sizes.sectors c.in-List.log.uploads.queue) (sym begins.2.list.geometry_is)
-    begins.2.places
-
-pub returns-in-List : goal.returns-in-List
-returns-in-List g c =
+pub returns-in_ok-log-in-List : goal.returns-in_ok-log-in-List
+returns-in_ok-log-in-List g c =
     let old = g.S.Store.state c.args.store.now in
     let middle = g.S.Store.state c.begin_list.new.store in
     let new = g.S.Store.state c.go_on.new.store in
     let uuid = c.args.uuid in
     let geometry = c.args.geometry in
+    let chain = c.args.chain.now in
     let base = c.args.base in
     let names = c.args.names.now in
-    let log = c.in-List.log in
+    let begun = c.in-List.log in
+    let absent = c.in-List.absent in
+    let log = c.in_ok-log-in-List.log in
     let Tells : Type 0 = TellsBytes g.S.Receipt.Receipt.state in
     let same = same_store old middle c.in_ok-log.ensures.unchanged c.in_ok-log.ensures.faults in
     let begins = rw c.in-List.is at c.in_ok-log.ensures.begins in
     let wide : geometry.sectors < 2 ^ 64 = grind (arith, nat_tests, c.requires.limits) in
-    subst (λ (s : StoreState). RecoverListOf Tells uuid geometry base names s new c.go_on.result) same
-    (recovers_so uuid geometry base begins.0 names wide begins.1 log begins.2 Tells middle new c.go_on.result
-    (λ tells. subst (λ (s : StoreState). IfSome s.objects (BeginsAsStored uuid geometry base begins.0 names wide begins.1 log))
-    (sym same) (begins.3 tells)) c.go_on.ensures)
+    subst (λ (s : StoreState). RecoverListOf Tells uuid geometry chain base names s new
+    (Ok (record { log = log; absent = absent }))) same
+    (recovers_so uuid geometry chain base begins.0 names wide begins.1 begun absent begins.2 Tells middle new log
+    (λ tells. subst (λ (s : StoreState). IfSome s.objects
+    (BeginsAsStored uuid geometry chain base begins.0 names wide begins.1 begun absent)) (sym same) (begins.3 tells))
+    c.in_ok-log-in-List.ensures)
+
+pub returns-in_err-log-in-List : goal.returns-in_err-log-in-List
+returns-in_err-log-in-List g c =
+    let old = g.S.Store.state c.args.store.now in
+    let middle = g.S.Store.state c.begin_list.new.store in
+    let new = g.S.Store.state c.go_on.new.store in
+    let uuid = c.args.uuid in
+    let geometry = c.args.geometry in
+    let chain = c.args.chain.now in
+    let base = c.args.base in
+    let names = c.args.names.now in
+    let begun = c.in-List.log in
+    let absent = c.in-List.absent in
+    let error = c.in_err-log-in-List.field-0.0 in
+    let Tells : Type 0 = TellsBytes g.S.Receipt.Receipt.state in
+    let same = same_store old middle c.in_ok-log.ensures.unchanged c.in_ok-log.ensures.faults in
+    let begins = rw c.in-List.is at c.in_ok-log.ensures.begins in
+    let wide : geometry.sectors < 2 ^ 64 = grind (arith, nat_tests, c.requires.limits) in
+    passed_as (RecoverListOf Tells uuid geometry chain base names old new)
+    c.from_residual-in_err-log-in-List.result error c.from_residual-in_err-log-in-List.ensures.1
+    (subst (λ (s : StoreState). RecoverListOf Tells uuid geometry chain base names s new (Err error)) same
+    (stops_so uuid geometry chain base begins.0 names wide begins.1 begun absent begins.2 Tells middle new error
+    (λ tells. subst (λ (s : StoreState). IfSome s.objects
+    (BeginsAsStored uuid geometry chain base begins.0 names wide begins.1 begun absent)) (sym same) (begins.3 tells))
+    c.in_err-log-in-List.ensures))
 
 -- ---- an object is missing that the checkpoint maps
 
@@ -68,6 +92,7 @@ returns-in_ok-refuse_beside-in-Missing g c =
     let new = g.S.Store.state c.refuse_beside.new.store in
     let uuid = c.args.uuid in
     let geometry = c.args.geometry in
+    let chain = c.args.chain.now in
     let base = c.args.base in
     let names = c.args.names.now in
     let missing = c.in-Missing.number in
@@ -94,9 +119,10 @@ returns-in_ok-refuse_beside-in-Missing g c =
       table = tt;
       recovers = λ tells. tt;
       refused = λ tells.
-          told_beside uuid geometry base read.rows names wide read.is old.objects missing error (begins tells)
-          (subst (Refuses old (expected_of uuid geometry)) c.base.view_is
-          (subst (λ v. Refuses old v held) c.expected_alone-volume.ensures
+          told_beside uuid geometry chain base read.rows names wide read.is old.objects missing error (begins tells)
+          (subst (Refuses old (expected_of uuid geometry (length chain))) c.base.view_is
+          (subst (λ v. Refuses old v held)
+          (c.expected_alone-volume.ensures ∙ ap (expected_of uuid geometry) c.count.ensures.count)
           (subst (λ s. Refuses s c.expected_alone-volume.result held) same (done.refused tells))));
       unchanged = subst (λ (s : StoreState). OnlyCounts s new) same done.unchanged;
       faults = refusal_counts error old.faults new.faults done.refusal (done.faults ∙ ap (λ (s : StoreState). s.faults) same);
@@ -109,13 +135,14 @@ returns-in_err-refuse_beside-in-Missing g c =
     let new = g.S.Store.state c.refuse_beside.new.store in
     let uuid = c.args.uuid in
     let geometry = c.args.geometry in
+    let chain = c.args.chain.now in
     let base = c.args.base in
     let names = c.args.names.now in
     let Tells : Type 0 = TellsBytes g.S.Receipt.Receipt.state in
     let same = same_store old middle c.in_ok-log.ensures.unchanged c.in_ok-log.ensures.faults in
     let error = c.in_err-refuse_beside-in-Missing.field-0.0 in
     let failed = c.in_err-refuse_beside-in-Missing.ensures in
-    passed_as (RecoverListOf Tells uuid geometry base names old new)
+    passed_as (RecoverListOf Tells uuid geometry chain base names old new)
     c.from_residual-in_err-refuse_beside-in-Missing.result error c.from_residual-in_err-refuse_beside-in-Missing.ensures.1
     (record {
       list = tt;
@@ -125,7 +152,8 @@ returns-in_err-refuse_beside-in-Missing g c =
       table = tt;
       recovers = λ tells. tt;
       refused = λ tells.
-          told_failed old.objects (expected_of uuid geometry) (IsRecoveryBegun uuid geometry base names) error failed.answer;
+          told_failed old.objects (expected_of uuid geometry (length chain)) (uuid_in_chain uuid chain)
+          (IsRecoveryBegun uuid geometry (length chain) base names) error failed.answer;
       unchanged = subst (λ (s : StoreState). OnlyCounts s new) same failed.unchanged;
       faults = subst (λ (s : StoreState). Counts (is_store_fault error) s.faults new.faults) same failed.faults;
     })

@@ -1,11 +1,14 @@
-use Rattle.std.proofs.Common.{◌-◌, arith}
+use Rattle.std.proofs.Common.{◌-◌, arith, subst}
+use Rattle.std.specs.List.{All}
+use Rattle.object_uploads.specs.Invariant.{IsPlaceWide}
 use Rattle.object_uploads.proofs.CheckpointLemmas.{few_rows, are_rows, row_left, all_written, spelled, holds_ok}
 use Rattle.object_uploads.proofs.checkpoint.write_map.Goals as goal
 
 -- the rows are no more than the sectors of the volume
 pub overflow_cast-count : goal.overflow_cast-count
 overflow_cast-count c =
-    let few = few_rows c.args.expected.now.sectors (c.args.expected.now.number - 1) c.args.map.now.rows
+    let few = few_rows c.args.expected.now.sectors c.args.expected.now.ancestors (c.args.expected.now.number - 1)
+    c.args.map.now.rows
     c.in_order-rows.ensures.shortest c.requires.fit in
     omega (arith, few)
 
@@ -21,8 +24,8 @@ finish-requires-clause-spelling c =
     let rows = c.args.map.now.rows in
     let written = all_written l.writer.rows l.rows rows l.invariant.all c.in_default.ensures.end in
     spelled c.args.expected.now l.writer.expected l.writer.rows rows l.invariant.expected written
-    (are_rows c.args.expected.now rows c.requires.number c.requires.limit c.requires.sectors c.in_order-rows.ensures.shortest
-    c.requires.fit)
+    (are_rows c.args.expected.now rows c.requires.number c.requires.sectors c.in_order-rows.ensures.shortest
+    (subst (All IsPlaceWide) written l.invariant.wide) c.requires.fit)
 
 pub returns : goal.returns
 returns c =

@@ -23,11 +23,12 @@ prove-unreachable-requires c =
     let error = c.in-Err.failed.1 in
     let e = not_kept _ _ _ _ _ _ c.in-Err.failed.0 error c.in-Err.ensures in
     let may = c.requires.may in
-    let why = subst (λ (u : List ℕ). OfVolume u (log_of disk.size) old (λ g n.
-    IsWhyFor u old (λ h m. IsWhyNotLeft (owner_with u m) h old disk) g n error)) uuid
+    let why = subst (λ (u : List ℕ). OfVolume u (log_of disk.size) old (λ g chain n.
+    IsWhyFor u old (λ h other m. IsWhyNotLeft (owner_with u m) h other old disk) g chain n error)) uuid
     (e.why_volume (λ receipt. refl)) in
     let none =
-    subst (λ (u : List ℕ). OfVolume u (log_of disk.size) old (λ g n. RefusesNoneLeft (owner_with u n) g old disk error)) uuid
+    subst (λ (u : List ℕ). OfVolume u (log_of disk.size) old (λ g chain n. RefusesNoneLeft
+    (owner_with u n) g chain old disk error)) uuid
     (e.no_refusal (λ receipt. refl)) in
     let lacks : error ≡ OutOfMemory =
     only_memory_left may.0 c.args.store.now disk c.in-Err.failed.0 error c.requires.fails_none may.1 why none e.costs
@@ -47,11 +48,12 @@ returns-in-Ok-clause-ok c =
     let e = made_kept _ _ _ _ _ _ mounted c.in-Ok.ensures in
     let may = c.requires.may in
     mounted_again may.0 disk mounted old new c.requires.fails_none may.1
-    (subst (λ (u : List ℕ). OfVolume u (log_of disk.size) (Some old) (λ g n. IsOfVolume (owner_with u n) g mounted)) uuid
+    (subst (λ (u : List ℕ). OfVolume u (log_of disk.size) (Some old) (λ g chain n. IsOfVolume
+    (owner_with u n) g chain mounted)) uuid
     (e.volume (λ receipt. refl)))
     (subst (λ (u : List ℕ). Becomes (RemovesAllPast u mounted.number) (Some old) (Some new)) uuid e.removed)
     (subst (λ (u : List ℕ). OfVolume u (log_of disk.size) (Some old)
-    (λ g n. KeepsLeft (owner_with u n) g (Some old) disk (disk_of mounted)))
+    (λ g chain n. KeepsLeft (owner_with u n) g chain (Some old) disk (disk_of mounted)))
     uuid
     (e.stops (λ receipt. refl))) e.costs e.synced
 
@@ -60,7 +62,8 @@ returns-in-Ok-clause-mounts c =
     let uuid : c.from_bytes.result ≡ script_uuid = c.from_bytes.ensures in
     let disk = c.args.disk in
     let old = Some c.args.store.now in
-    subst (λ (u : List ℕ). OfVolume u (log_of disk.size) old (λ g n. MountsLeft (owner_with u n) g old disk c.in-Ok.mounted)) uuid
+    subst (λ (u : List ℕ). OfVolume u (log_of disk.size) old (λ g chain n. MountsLeft
+    (owner_with u n) g chain old disk c.in-Ok.mounted)) uuid
     ((made_kept _ _ _ _ _ _ c.in-Ok.mounted c.in-Ok.ensures).mounts (λ receipt. refl))
 
 pub returns-in-Ok-clause-number : goal.returns-in-Ok-clause-number

@@ -24,10 +24,10 @@ prove-unreachable-requires c =
     let error = c.in-Err.failed.1 in
     let e = not_lost _ _ _ _ _ _ c.in-Err.failed.0 error c.in-Err.ensures in
     let may = c.requires.may in
-    let why = subst (λ (u : List ℕ). OfVolume u (log_of disk.size) old (λ g n.
-    IsWhyFor u old (λ h m. IsWhyLost u h m old) g n error)) uuid
+    let why = subst (λ (u : List ℕ). OfVolume u (log_of disk.size) old (λ g chain n.
+    IsWhyFor u old (λ h other m. IsWhyLost u h other m old) g chain n error)) uuid
     (e.why_volume (λ receipt. refl)) in
-    let none = subst (λ (u : List ℕ). OfVolume u (log_of disk.size) old (λ g n. RefusesNoneStored u g old error)) uuid
+    let none = subst (λ (u : List ℕ). OfVolume u (log_of disk.size) old (λ g chain n. RefusesNoneStored u g chain old error)) uuid
     (e.no_refusal (λ receipt. refl)) in
     let format = subst (λ (u : List ℕ). FailsToFormatIn u (is_device_fault error) disk c.in-Err.failed.0) uuid e.costs in
     let lacks : error ≡ OutOfMemory =
@@ -47,9 +47,10 @@ returns-in-Ok-clause-ok c =
     let new = c.mount_lost.new.store in
     let e = made_lost _ _ _ _ _ _ mounted c.in-Ok.ensures in
     mounted_anew disk mounted old new c.requires.fails_none c.requires.blank
-    (subst (λ (u : List ℕ). OfVolume u (log_of disk.size) (Some old) (λ g n. IsOfVolume (owner_with u (n + 1)) g mounted)) uuid
+    (subst (λ (u : List ℕ). OfVolume u (log_of disk.size) (Some old)
+    (λ g chain n. IsOfVolume (owner_with u (n + 1)) g chain mounted)) uuid
     (e.volume (λ receipt. refl)))
-    (subst (λ (u : List ℕ). OfVolume u (log_of disk.size) (Some old) (λ g n. Becomes (BeginsEpoch u mounted.number (n + 1))
+    (subst (λ (u : List ℕ). OfVolume u (log_of disk.size) (Some old) (λ g chain n. Becomes (BeginsEpoch u mounted.number (n + 1))
     (Some old) (Some new))) uuid
     (e.begun (λ receipt. refl)))
     (subst (λ (u : List ℕ). (n : ℕ) × CostsNewLog u n true disk (disk_of mounted)) uuid e.costs) e.synced
@@ -58,7 +59,8 @@ pub returns-in-Ok-clause-mounts : goal.returns-in-Ok-clause-mounts
 returns-in-Ok-clause-mounts c =
     let uuid : c.from_bytes.result ≡ script_uuid = c.from_bytes.ensures in
     let old = Some c.args.store.now in
-    subst (λ (u : List ℕ). OfVolume u (log_of c.args.disk.size) old (λ g n. MountsStored u g old c.in-Ok.mounted)) uuid
+    subst (λ (u : List ℕ). OfVolume u (log_of c.args.disk.size) old
+    (λ g chain n. MountsStored u g chain old c.in-Ok.mounted)) uuid
     ((made_lost _ _ _ _ _ _ c.in-Ok.mounted c.in-Ok.ensures).mounts (λ receipt. refl))
 
 pub returns-in-Ok-clause-number : goal.returns-in-Ok-clause-number

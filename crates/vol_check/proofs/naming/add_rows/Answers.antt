@@ -3,9 +3,8 @@ use Rattle.ckpt_format.specs.Checkpoint.{IsCheckpoint}
 use Rattle.ckpt_format.specs.Reading.{CheckpointReading}
 use Rattle.object_format.specs.declared.expected.Expected.{Expected}
 use Rattle.object_recovery.proofs.RowLemmas.{last_stands_so}
-use Rattle.stopped_volume.specs.Holds.{IsMappedBy}
 use Rattle.stopped_volume.specs.Opening.{owned_by}
-use Rattle.vol_check.specs.Steps.{Adds}
+use Rattle.vol_check.specs.Steps.{GainsJust, MapsObject}
 use Rattle.vol_check.proofs.RowLemmas.{no_rows, row_more}
 use Rattle.vol_check.proofs.naming.add_rows.Goals as goal
 
@@ -16,7 +15,7 @@ loop-row-init c =
     record {
       object = begun.object;
       expected = begun.expected;
-      adds = subst (λ list. Adds (IsMappedBy (owned_by list)) named named) (sym begun.given) (no_rows named);
+      adds = subst (λ list. GainsJust (MapsObject (owned_by list)) named named) (sym begun.given) (no_rows named);
     }
 
 pub loop-row-preserved : goal.loop-row-preserved
@@ -31,7 +30,7 @@ loop-row-preserved c =
       object = ap (λ (r : CheckpointReading). r.object) gives.after ∙ before.object;
       expected = ap (λ (r : CheckpointReading). r.expected) gives.after ∙ before.expected;
       adds =
-          subst (λ list. Adds (IsMappedBy (owned_by list)) c.args.named.now c.add_place.new.named) (sym given)
+          subst (λ list. GainsJust (MapsObject (owned_by list)) c.args.named.now c.add_place.new.named) (sym given)
           (row_more old.given row c.args.named.now c.loop-row.named c.add_place.new.named gives.spelling.shortest some before.adds
           c.in_ok-add_place-in-Ok-Some.ensures);
     }

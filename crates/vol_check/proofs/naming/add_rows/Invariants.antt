@@ -1,7 +1,6 @@
 use Rattle.std.proofs.Common.{◌≡◌, length}
-use Rattle.stopped_volume.specs.Holds.{IsMappedBy}
 use Rattle.stopped_volume.specs.Opening.{owned_by}
-use Rattle.vol_check.specs.Steps.{Adds}
+use Rattle.vol_check.specs.Steps.{GainsJust, MapsObject}
 use Rattle.vol_check.proofs.naming.add_rows.Given as goal
 
 -- what the rows so far name was added
@@ -9,7 +8,7 @@ abbrev pub invariant-loop-row : goal.invariant-loop-row
 invariant-loop-row l = record {
   object : l.rows.object ≡ l.bytes;
   expected : l.rows.expected ≡ l.expected;
-  adds : Adds (IsMappedBy (owned_by l.rows.given)) l.initial.named l.named;
+  adds : GainsJust (MapsObject (owned_by l.rows.given)) l.initial.named l.named;
 }
 
 abbrev pub decreases-loop-row : goal.decreases-loop-row

@@ -37,5 +37,5 @@ returns g c =
     let receipt = g.R.Receipt.state c.args.receipt in
     let begun : HasBegun receipt old.uploads new.uploads =
     subst (λ (u : UploadsState). HasBegun receipt u new.uploads) c.uploads_mut.ensures.is c.in_ok-begin.ensures.begun in
-    new_list_is c.args.uuid c.args.geometry receipt old new e.batch e.uuid e.sectors e.window e.frontier e.end e.sealed
-    e.removal e.settled e.log e.objects refl begun c.in_ok-begin.ensures.order
+    new_list_is c.args.uuid c.args.geometry receipt old new e.batch e.uuid e.sectors e.ancestors e.window e.frontier e.end
+    e.sealed e.removal e.settled e.log e.objects refl begun c.in_ok-begin.ensures.order

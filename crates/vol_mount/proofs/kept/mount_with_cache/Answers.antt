@@ -43,12 +43,14 @@ returns-in-Err g c =
       none = record {
         why = λ tells. inl (c.in-Err.ensures.why tells);
         no_refusal = λ tells.
-            refuses_none_too c.args.volume.uuid c.args.volume.geometry c.args.volume.epoch old.objects disk error
+            refuses_none_too c.args.volume.uuid c.args.volume.geometry c.args.volume.chain c.args.volume.epoch old.objects disk
+            error
             (c.in-Err.ensures.no_refusal tells);
         store = λ none. same;
-        some = may_leave_same Tells c.args.volume.uuid c.args.volume.geometry old.objects new.objects same;
+        some = may_leave_same Tells c.args.volume.uuid c.args.volume.geometry c.args.volume.chain old.objects new.objects same;
         device = inl refl;
-        stops = λ tells. keeps_same c.args.volume.uuid c.args.volume.geometry c.args.volume.epoch old.objects disk;
+        stops = λ tells. keeps_same c.args.volume.uuid c.args.volume.geometry c.args.volume.chain c.args.volume.epoch
+            old.objects disk;
         costs =
             subst (λ made. CostsMount c.args.volume.geometry.log made disk disk) (sym (ap not c.in-Err.ensures.no_fault))
             (costs_nothing c.args.volume.geometry disk disk refl);
@@ -74,6 +76,7 @@ pub returns-in-Err-open_log : goal.returns-in-Err-open_log
 returns-in-Err-open_log g c =
     let uuid = c.args.volume.uuid in
     let geometry = c.args.volume.geometry in
+    let chain = c.args.volume.chain in
     let epoch = c.args.volume.epoch in
     let old = g.S.Store.state c.args.store.now in
     let new = g.S.Store.state c.recover_list.new.store in
@@ -92,26 +95,27 @@ returns-in-Err-open_log g c =
       none = record {
         why = λ tells.
             inr (
-              good_objects uuid geometry old.objects list recovered.checkpoint c.in-Ok.ensures.list (c.in-Ok.ensures.told tells),
+              good_objects uuid geometry chain old.objects list recovered.checkpoint c.in-Ok.ensures.list
+                  (c.in-Ok.ensures.told tells),
               (
                 greatest,
                 list.uploads.queue.end,
-                extent_of uuid geometry old.objects recovered greatest c.in-Ok.ensures.list (c.in-Ok.ensures.told tells)
+                extent_of uuid geometry chain old.objects recovered greatest c.in-Ok.ensures.list (c.in-Ok.ensures.told tells)
                     c.in-Ok.ensures.has_names c.greatest_number.ensures,
                 refused.why,
               ),
             );
         no_refusal = λ tells.
-            opening_refuses_none uuid geometry epoch old.objects disk c.requires.size c.requires.log c.requires.is_disk
+            opening_refuses_none uuid geometry chain epoch old.objects disk c.requires.size c.requires.log c.requires.is_disk
             c.requires.limits list recovered.checkpoint c.in-Ok.ensures.list (c.in-Ok.ensures.told tells) error greatest
             refused.why;
         store = λ none. same;
-        some = may_leave_same Tells uuid geometry old.objects new.objects same;
+        some = may_leave_same Tells uuid geometry chain old.objects new.objects same;
         device =
-            device_opened (PassesAll Tells (owner_with uuid epoch) geometry old.objects disk) geometry error disk left
+            device_opened (PassesAll Tells (owner_with uuid epoch) geometry chain old.objects disk) geometry error disk left
             refused.device;
         stops = λ tells.
-            opening_keeps uuid geometry epoch old.objects disk c.requires.size c.requires.log c.requires.is_disk left
+            opening_keeps uuid geometry chain epoch old.objects disk c.requires.size c.requires.log c.requires.is_disk left
             refused.settled;
         costs = refused.costs;
         is_disk = c.in-Err-open_log.ensures.is_disk;
@@ -139,7 +143,7 @@ list_low g c =
     omega (arith, less, low)
 
 passes : (g : given.Over) (c : In-Ok-open_log g) → TellsBytes g.S.Receipt.Receipt.state
-    → PassesLeft (owner_with c.args.volume.uuid c.args.volume.epoch) c.args.volume.geometry (g.S.Store.state
+    → PassesLeft (owner_with c.args.volume.uuid c.args.volume.epoch) c.args.volume.geometry c.args.volume.chain (g.S.Store.state
     c.args.store.now).objects
     (g.D.Disk.state c.args.disk) c.in-Ok.recovered.log.uploads.window.last
     (max c.in-Ok.recovered.log.uploads.queue.end (opened g c).commits.body.head.seq)
@@ -147,18 +151,21 @@ passes g c tells =
     let told = (g.S.Store.state c.args.store.now).objects in
     let recovered = c.in-Ok.recovered in
     let greatest = c.greatest_number.result in
-    passes_left c.args.volume.uuid c.args.volume.geometry c.args.volume.epoch recovered.log recovered.checkpoint greatest told
+    passes_left c.args.volume.uuid c.args.volume.geometry c.args.volume.chain c.args.volume.epoch recovered.log
+    recovered.checkpoint greatest told
     (g.D.Disk.state c.args.disk) c.in-Ok-open_log.log c.in-Ok.ensures.list (c.in-Ok.ensures.told tells)
-    (extent_of c.args.volume.uuid c.args.volume.geometry told recovered greatest c.in-Ok.ensures.list (c.in-Ok.ensures.told tells)
+    (extent_of c.args.volume.uuid c.args.volume.geometry c.args.volume.chain told recovered greatest c.in-Ok.ensures.list
+    (c.in-Ok.ensures.told tells)
     c.in-Ok.ensures.has_names c.greatest_number.ensures)
     c.greatest_number.ensures.no_less c.in-Ok-open_log.ensures.low (opened g c)
 
 -- ---- the list was not completed
 
-pub returns-in-Err-complete : goal.returns-in-Err-complete
-returns-in-Err-complete g c =
+pub returns : goal.returns
+returns g c =
     let uuid = c.args.volume.uuid in
     let geometry = c.args.volume.geometry in
+    let chain = c.args.volume.chain in
     let epoch = c.args.volume.epoch in
     let old = g.S.Store.state c.args.store.now in
     let middle = g.S.Store.state c.recover_list.new.store in
@@ -171,7 +178,7 @@ returns-in-Err-complete g c =
     let list : ObjLogState = c.in-Ok.recovered.log in
     let last = list.uploads.window.last in
     let Tells : Type 0 = TellsBytes g.S.Receipt.Receipt.state in
-    let before = (goal.at.returns-in-Err-complete g c).In-Ok-open_log in
+    let before = (goal.at.returns g c).In-Ok-open_log in
     let log = opened g before in
     let some =
     subst (λ u. Becomes (Removes (IsPastOf u last)) middle.objects new.objects) c.in-Ok.ensures.list.list.uuid_is
@@ -180,26 +187,28 @@ returns-in-Err-complete g c =
     record {
       made = tt;
       none = record {
-        why = λ tells. inl (why_faulted error uuid geometry old.objects fault);
-        no_refusal = λ tells. faults_refuse_no_left error uuid geometry epoch old.objects disk fault;
+        why = λ tells. inl (why_faulted error uuid geometry chain old.objects fault);
+        no_refusal = λ tells. faults_refuse_no_left error uuid geometry chain epoch old.objects disk fault;
         store = λ none. absurd (none fault);
         some =
-            may_leave_less Tells uuid geometry last old.objects new.objects
-            (λ tells. last_landed uuid geometry old.objects list checkpoint (list_low g before) (c.in-Ok.ensures.told tells))
+            may_leave_less Tells uuid geometry chain last old.objects new.objects
+            (λ tells. last_landed uuid geometry chain old.objects list checkpoint (list_low g before)
+            (c.in-Ok.ensures.told tells))
             (becomes_from (Removes (IsPastOf uuid last)) old.objects middle.objects new.objects
             (same_objects old middle c.in-Ok.ensures.unchanged) some);
         device =
-            device_faulted (PassesAll Tells (owner_with uuid epoch) geometry old.objects disk) geometry error disk left fault
+            device_faulted (PassesAll Tells
+            (owner_with uuid epoch) geometry chain old.objects disk) geometry error disk left fault
             (λ tells. (last, max list.uploads.queue.end log.commits.body.head.seq, passes g before tells));
         stops = λ tells.
-            subst (λ d. KeepsLeft (owner_with uuid epoch) geometry old.objects disk d) (sym c.into_disk.ensures.same)
-            (completing_keeps uuid geometry epoch list checkpoint old.objects disk c.in-Ok-open_log.log c.requires.limits
+            subst (λ d. KeepsLeft (owner_with uuid epoch) geometry chain old.objects disk d) (sym c.into_disk.ensures.same)
+            (completing_keeps uuid geometry chain epoch list checkpoint old.objects disk c.in-Ok-open_log.log c.requires.limits
             c.requires.size c.requires.log c.requires.is_disk c.in-Ok.ensures.list log (c.in-Ok.ensures.told tells)
             c.complete.new.log.commits.disk (subst IsDisk c.into_disk.ensures.same c.into_disk.ensures.is_disk)
             c.in-Err-complete.ensures.stops);
         costs =
             subst (λ d. CostsMount geometry.log made disk d) (sym c.into_disk.ensures.same)
-            (completing_costs uuid geometry epoch list.uploads.queue.end disk c.complete.new.log.commits.disk
+            (completing_costs uuid geometry chain epoch list.uploads.queue.end disk c.complete.new.log.commits.disk
             c.in-Ok-open_log.log made log c.in-Err-complete.ensures.calls);
         is_disk = c.into_disk.ensures.is_disk;
       };
@@ -212,7 +221,7 @@ returns-in-Err-complete g c =
 pub assemble-requires-clause-shows : goal.assemble-requires-clause-shows
 assemble-requires-clause-shows g c =
     let before = (goal.at.assemble-requires-clause-shows g c).In-Ok-open_log in
-    kept_shows_some c.args.volume.uuid c.args.volume.geometry c.args.volume.epoch c.in-Ok.recovered.log
+    kept_shows_some c.args.volume.uuid c.args.volume.geometry c.args.volume.chain c.args.volume.epoch c.in-Ok.recovered.log
     c.in-Ok.recovered.checkpoint
     (g.D.Disk.state c.args.disk) c.in-Ok-open_log.log
     c.complete.new.log c.in-Ok-complete.objects c.requires.limits c.in-Ok.ensures.list (opened g before)
@@ -221,7 +230,8 @@ assemble-requires-clause-shows g c =
 pub assemble-requires-clause-small : goal.assemble-requires-clause-small
 assemble-requires-clause-small g c =
     let before = (goal.at.assemble-requires-clause-small g c).In-Ok-open_log in
-    kept_is_small c.args.volume.uuid c.args.volume.geometry c.args.volume.epoch c.in-Ok.recovered.log c.in-Ok.recovered.checkpoint
+    kept_is_small c.args.volume.uuid c.args.volume.geometry c.args.volume.chain c.args.volume.epoch c.in-Ok.recovered.log
+    c.in-Ok.recovered.checkpoint
     (g.D.Disk.state c.args.disk) c.in-Ok-open_log.log
     c.complete.new.log c.in-Ok-complete.objects c.requires.limits c.in-Ok.ensures.list (opened g before)
     c.in-Ok-complete.ensures.ok (list_low g before)
@@ -230,6 +240,7 @@ pub returns-in-Ok-complete : goal.returns-in-Ok-complete
 returns-in-Ok-complete g c =
     let uuid = c.args.volume.uuid in
     let geometry = c.args.volume.geometry in
+    let chain = c.args.volume.chain in
     let epoch = c.args.volume.epoch in
     let old = g.S.Store.state c.args.store.now in
     let middle = g.S.Store.state c.recover_list.new.store in
@@ -246,35 +257,35 @@ returns-in-Ok-complete g c =
     let Tells : Type 0 = TellsBytes g.S.Receipt.Receipt.state in
     let at = goal.at.returns-in-Ok-complete g c in
     let is_open = opened g at.In-Ok-open_log in
-    let number = last_is uuid geometry epoch list checkpoint disk before log objects limits is is_open done in
-    let entries = history_is uuid geometry epoch list checkpoint disk before log objects limits is is_open done in
+    let number = last_is uuid geometry chain epoch list checkpoint disk before log objects limits is is_open done in
+    let entries = history_is uuid geometry chain epoch list checkpoint disk before log objects limits is is_open done in
     let removed =
     becomes_from (RemovesAllPast uuid list.uploads.window.last) old.objects middle.objects new.objects
     (same_objects old middle c.in-Ok.ensures.unchanged)
     (subst (λ u. Becomes (RemovesAllPast u list.uploads.window.last) middle.objects new.objects) is.list.uuid_is
     c.in-Ok-complete.ensures.removed) in
-    let made : MakesWithCache Tells (owner_with uuid epoch) geometry old.objects new.objects disk (mounted_of objects log) =
+    let made : MakesWithCache Tells (owner_with uuid epoch) geometry chain old.objects new.objects disk (mounted_of objects log) =
     record {
-      volume = kept_of_volume uuid geometry epoch list checkpoint disk before log objects limits is is_open done;
+      volume = kept_of_volume uuid geometry chain epoch list checkpoint disk before log objects limits is is_open done;
       passes = λ tells.
-          subst₂ (λ n k. PassesLeft (owner_with uuid epoch) geometry old.objects disk n k) (sym number) (sym entries)
+          subst₂ (λ n k. PassesLeft (owner_with uuid epoch) geometry chain old.objects disk n k) (sym number) (sym entries)
           (passes g at.In-Ok-open_log tells);
       mounts = λ tells.
-          mounts_left uuid geometry epoch list checkpoint disk before log objects limits is is_open done old.objects
+          mounts_left uuid geometry chain epoch list checkpoint disk before log objects limits is is_open done old.objects
           c.requires.size c.requires.log c.requires.is_disk (c.in-Ok.ensures.told tells);
       removed = subst (λ n. Becomes (RemovesAllPast uuid n) old.objects new.objects) (sym number) removed;
       stops = λ tells.
-          completing_keeps uuid geometry epoch list checkpoint old.objects disk before limits c.requires.size c.requires.log
+          completing_keeps uuid geometry chain epoch list checkpoint old.objects disk before limits c.requires.size c.requires.log
           c.requires.is_disk is is_open (c.in-Ok.ensures.told tells) log.commits.disk done.is_disk c.in-Ok-complete.ensures.stops;
       costs =
-          completing_costs uuid geometry epoch list.uploads.queue.end disk log.commits.disk before true is_open
+          completing_costs uuid geometry chain epoch list.uploads.queue.end disk log.commits.disk before true is_open
           c.in-Ok-complete.ensures.calls;
       synced = done.synced;
-      number = numbers_next uuid geometry epoch list checkpoint disk before log objects limits is is_open done;
+      number = numbers_next uuid geometry chain epoch list checkpoint disk before log objects limits is is_open done;
     } in
     record {
       made =
-          subst (MakesWithCache Tells (owner_with uuid epoch) geometry old.objects new.objects disk)
+          subst (MakesWithCache Tells (owner_with uuid epoch) geometry chain old.objects new.objects disk)
           (sym c.assemble.ensures) made;
       none = tt;
       faults = c.in-Ok-complete.ensures.faults ∙ c.in-Ok.ensures.faults;

@@ -1,4 +1,4 @@
-use Rattle.std.proofs.Common.{Err, ◌+◌, inl, sym, ap, subst}
+use Rattle.std.proofs.Common.{Err, ◌+◌, inl, sym, ap, subst, length}
 use Rattle.object_recovery.specs.Checkpoints.{expected_of}
 use Rattle.stopped_volume.specs.Store.{TellsBytes}
 use Rattle.object_recovery.specs.Recovery.{RemovesAllPast, MayRemovePast}
@@ -20,9 +20,9 @@ returns-in_err-objects-clause-err g c =
     let old = (g.S.Store.state c.args.store.now).objects in
     let new = (g.S.Store.state c.recover_alone.new.store).objects in
     let Tells : Type 0 = TellsBytes g.S.Receipt.Receipt.state in
-    let volume = expected_of c.args.volume.uuid c.args.volume.geometry in
+    let volume = expected_of c.args.volume.uuid c.args.volume.geometry (length c.args.volume.chain) in
     let refused = c.in_err-objects.ensures.err in
-    passed_on (RefusesAlone Tells c.args.volume.uuid c.args.volume.geometry c.args.volume.epoch
+    passed_on (RefusesAlone Tells c.args.volume.uuid c.args.volume.geometry c.args.volume.chain c.args.volume.epoch
     (MayBeginEpoch Tells volume (c.args.volume.epoch + 1)) old new)
     c.from_residual.result c.in_err-objects.field-0.0 c.from_residual.ensures.1
     (record {
@@ -46,20 +46,23 @@ returns-in-Err-clause-err g c =
     let list = c.in_ok-objects.objects in
     let Tells : Type 0 = TellsBytes g.S.Receipt.Receipt.state in
     let fault : IsFault error = put_faults c.in-Err.error c.in-Err.ensures.answer in
-    subst (RefusesAlone Tells c.args.volume.uuid c.args.volume.geometry c.args.volume.epoch
-    (MayBeginEpoch Tells (expected_of c.args.volume.uuid c.args.volume.geometry) (c.args.volume.epoch + 1)) old new.objects) (sym
+    subst (RefusesAlone Tells c.args.volume.uuid c.args.volume.geometry c.args.volume.chain c.args.volume.epoch
+    (MayBeginEpoch Tells (expected_of c.args.volume.uuid c.args.volume.geometry (length c.args.volume.chain))
+    (c.args.volume.epoch + 1)) old new.objects) (sym
     c.into.ensures)
     (record {
       why = λ tells.
-          why_lost_too error c.args.volume.uuid c.args.volume.geometry c.args.volume.epoch old
-          (why_faulted error c.args.volume.uuid c.args.volume.geometry old fault);
+          why_lost_too error c.args.volume.uuid c.args.volume.geometry c.args.volume.chain c.args.volume.epoch old
+          (why_faulted error c.args.volume.uuid c.args.volume.geometry c.args.volume.chain old fault);
       no_refusal = λ tells plain number stored. faults_refuse_none error fault;
       store = λ none. absurd (none fault);
       some =
-          may_begin Tells c.args.volume.uuid c.args.volume.geometry list.uploads.window.last (c.args.volume.epoch + 1)
+          may_begin Tells c.args.volume.uuid c.args.volume.geometry c.args.volume.chain list.uploads.window.last
+          (c.args.volume.epoch + 1)
           c.in-Err.error old
           (g.S.Store.state c.recover_alone.new.store) new
-          (λ tells. last_landed c.args.volume.uuid c.args.volume.geometry old list recovers.checkpoint recovers.low.last
+          (λ tells. last_landed c.args.volume.uuid c.args.volume.geometry c.args.volume.chain old list recovers.checkpoint
+          recovers.low.last
           (recovers.told tells))
           c.in_ok-objects.ensures.removed c.in-Err.ensures.answer (λ same. c.in-Err.ensures.failed (ap Err same))
           (λ same. c.in-Err.ensures.unchanged (ap Err same));

@@ -49,14 +49,14 @@ formatted g c =
 
 pub assemble-requires-clause-shows : goal.assemble-requires-clause-shows
 assemble-requires-clause-shows g c =
-    lost_shows_some c.args.volume.uuid c.args.volume.geometry (c.args.volume.epoch + 1) c.in-Ok.objects
+    lost_shows_some c.args.volume.uuid c.args.volume.geometry c.args.volume.chain (c.args.volume.epoch + 1) c.in-Ok.objects
     c.in-Ok.ensures.ok.checkpoint
     (g.D.Disk.state c.args.disk) c.in-Ok-format.log
     c.requires.limits c.requires.log c.in-Ok.ensures.ok.list (formatted g c)
 
 pub assemble-requires-clause-small : goal.assemble-requires-clause-small
 assemble-requires-clause-small g c =
-    lost_is_small c.args.volume.uuid c.args.volume.geometry (c.args.volume.epoch + 1) c.in-Ok.objects
+    lost_is_small c.args.volume.uuid c.args.volume.geometry c.args.volume.chain (c.args.volume.epoch + 1) c.in-Ok.objects
     c.in-Ok.ensures.ok.checkpoint
     (g.D.Disk.state c.args.disk) c.in-Ok-format.log
     c.requires.limits c.requires.log c.in-Ok.ensures.ok.list (formatted g c) c.args.volume.epoch c.in-Ok.ensures.ok.low
@@ -65,6 +65,7 @@ pub returns-in-Ok-format : goal.returns-in-Ok-format
 returns-in-Ok-format g c =
     let uuid = c.args.volume.uuid in
     let geometry = c.args.volume.geometry in
+    let chain = c.args.volume.chain in
     let next = c.args.volume.epoch + 1 in
     let old = g.S.Store.state c.args.store.now in
     let new = g.S.Store.state c.begin_epoch.new.store in
@@ -77,15 +78,16 @@ returns-in-Ok-format g c =
     let is = formatted g before in
     let limits = c.requires.limits in
     let Tells : Type 0 = TellsBytes g.S.Receipt.Receipt.state in
-    let history = history_is uuid geometry next list checkpoint disk log limits c.requires.log recovers.list is in
-    let made : MakesWithoutCache Tells uuid geometry c.args.volume.epoch old.objects new.objects disk (mounted_of list log) =
+    let history = history_is uuid geometry chain next list checkpoint disk log limits c.requires.log recovers.list is in
+    let made : MakesWithoutCache Tells uuid geometry chain c.args.volume.epoch old.objects new.objects disk
+    (mounted_of list log) =
     record {
-      volume = lost_of_volume uuid geometry next list checkpoint disk log limits c.requires.log recovers.list is;
+      volume = lost_of_volume uuid geometry chain next list checkpoint disk log limits c.requires.log recovers.list is;
       passes = λ tells.
-          subst (λ n. PassesStored uuid geometry c.args.volume.epoch old.objects list.uploads.window.last n) (sym history)
+          subst (λ n. PassesStored uuid geometry chain c.args.volume.epoch old.objects list.uploads.window.last n) (sym history)
           (recovers.passes tells);
       mounts = λ tells.
-          mounts_stored uuid geometry next list checkpoint disk log limits c.requires.log recovers.list is old.objects
+          mounts_stored uuid geometry chain next list checkpoint disk log limits c.requires.log recovers.list is old.objects
           (recovers.told tells);
       begun = c.in-Ok.ensures.begun;
       synced = c.in-Ok-format.ensures.ok.synced;
@@ -99,7 +101,8 @@ returns-in-Ok-format g c =
     } in
     record {
       made =
-          subst (MakesWithoutCache Tells uuid geometry c.args.volume.epoch old.objects new.objects disk) (sym c.assemble.ensures)
+          subst (MakesWithoutCache Tells uuid geometry chain c.args.volume.epoch old.objects new.objects disk)
+          (sym c.assemble.ensures)
           made;
       none = tt;
       faults = c.in-Ok.ensures.faults;
@@ -109,6 +112,7 @@ pub returns-in-Err-format : goal.returns-in-Err-format
 returns-in-Err-format g c =
     let uuid = c.args.volume.uuid in
     let geometry = c.args.volume.geometry in
+    let chain = c.args.volume.chain in
     let next = c.args.volume.epoch + 1 in
     let old = g.S.Store.state c.args.store.now in
     let new = g.S.Store.state c.begin_epoch.new.store in
@@ -126,15 +130,15 @@ returns-in-Err-format g c =
     record {
       made = tt;
       none =
-          subst (LeavesWithoutCache Tells uuid geometry c.args.volume.epoch old.objects new.objects disk left) (sym
+          subst (LeavesWithoutCache Tells uuid geometry chain c.args.volume.epoch old.objects new.objects disk left) (sym
           c.into.ensures)
           (record {
             why = λ tells. tt;
             no_refusal = λ tells plain number stored. refl;
             store = λ none. absurd (none tt);
             some =
-                may_have_begun Tells uuid geometry list.uploads.window.last next old.objects new.objects
-                (λ tells. last_landed uuid geometry old.objects list c.in-Ok.ensures.ok.checkpoint recovers.low.last
+                may_have_begun Tells uuid geometry chain list.uploads.window.last next old.objects new.objects
+                (λ tells. last_landed uuid geometry chain old.objects list c.in-Ok.ensures.ok.checkpoint recovers.low.last
                 (recovers.told tells))
                 c.in-Ok.ensures.begun;
             costs = fails;

@@ -1,4 +1,4 @@
-use Rattle.std.proofs.Common.{◌≡◌, ◌<◌, ◌∷◌, [], refl, sym, subst, arith}
+use Rattle.std.proofs.Common.{◌≡◌, ◌<◌, ◌∷◌, [], refl, sym, subst, arith, length}
 use Rattle.lsvd_objstore.specs.Store.{Becomes}
 use Rattle.obj_log.specs.State.{ObjLogState}
 use Rattle.vol_core.specs.Shows.{max_number}
@@ -26,17 +26,18 @@ returns-in_err-recovered-clause-err g c =
     let error = c.in_err-recovered.field-0.0 in
     let Tells : Type 0 = TellsBytes g.S.Receipt.Receipt.state in
     let same = same_objects old new c.in_err-recovered.ensures.unchanged in
-    passed_on (RefusesAlone Tells c.args.volume.uuid c.args.volume.geometry c.args.volume.epoch
-    (MayRemovePast Tells (expected_of c.args.volume.uuid c.args.volume.geometry)) old.objects new.objects) c.from_residual.result
+    passed_on (RefusesAlone Tells c.args.volume.uuid c.args.volume.geometry c.args.volume.chain c.args.volume.epoch
+    (MayRemovePast Tells (expected_of c.args.volume.uuid c.args.volume.geometry
+    (length c.args.volume.chain))) old.objects new.objects) c.from_residual.result
     error
     c.from_residual.ensures.1
     (record {
       why = λ tells.
-          why_lost_too error c.args.volume.uuid c.args.volume.geometry c.args.volume.epoch old.objects
+          why_lost_too error c.args.volume.uuid c.args.volume.geometry c.args.volume.chain c.args.volume.epoch old.objects
           (c.in_err-recovered.ensures.why tells);
       no_refusal = c.in_err-recovered.ensures.no_refusal;
       store = λ none. same;
-      some = may_leave_same Tells c.args.volume.uuid c.args.volume.geometry old.objects new.objects same;
+      some = may_leave_same Tells c.args.volume.uuid c.args.volume.geometry c.args.volume.chain old.objects new.objects same;
       no_fault = c.in_err-recovered.ensures.no_fault;
     })
 
@@ -46,10 +47,12 @@ end_is : (g : given.Over) (c : After-greatest_number g) → c.end-end.result ≡
 end_is g c = cc (c.end-end.ensures, c.uploads.ensures, c.log.ensures)
 
 extent : (g : given.Over) (c : After-greatest_number g) → TellsBytes g.S.Receipt.Receipt.state
-    → HasExtent c.args.volume.uuid c.args.volume.geometry (g.S.Store.state c.args.store.now).objects c.greatest_number.result
+    → HasExtent c.args.volume.uuid c.args.volume.geometry c.args.volume.chain
+    (g.S.Store.state c.args.store.now).objects c.greatest_number.result
     c.in_ok-recovered.recovered.log.uploads.queue.end
 extent g c tells =
-    extent_of c.args.volume.uuid c.args.volume.geometry (g.S.Store.state c.args.store.now).objects c.in_ok-recovered.recovered
+    extent_of c.args.volume.uuid c.args.volume.geometry c.args.volume.chain
+    (g.S.Store.state c.args.store.now).objects c.in_ok-recovered.recovered
     c.greatest_number.result c.in_ok-recovered.ensures.list (c.in_ok-recovered.ensures.told tells)
     c.in_ok-recovered.ensures.has_names c.greatest_number.ensures
 
@@ -68,13 +71,14 @@ returns-in-Some-clause-err g c =
         subst (λ end. IsFirstGreat (c.args.volume.epoch ∷ greatest ∷ end ∷ []) c.in-Some.value) (end_is g at)
             c.in-Some.ensures.some,
         extent g at tells,
-        good_objects c.args.volume.uuid c.args.volume.geometry old.objects recovered.log recovered.checkpoint
+        good_objects c.args.volume.uuid c.args.volume.geometry c.args.volume.chain old.objects recovered.log recovered.checkpoint
             c.in_ok-recovered.ensures.list
             (c.in_ok-recovered.ensures.told tells),
       );
       no_refusal = λ tells plain number stored. refl;
       store = λ none. same;
-      some = may_leave_same (TellsBytes g.S.Receipt.Receipt.state) c.args.volume.uuid c.args.volume.geometry old.objects
+      some = may_leave_same
+          (TellsBytes g.S.Receipt.Receipt.state) c.args.volume.uuid c.args.volume.geometry c.args.volume.chain old.objects
           new.objects same;
       no_fault = refl;
     }
@@ -110,17 +114,19 @@ returns-in-Err-clause-err g c =
     let some =
     subst (λ uuid. Becomes (Removes (IsPastOf uuid last)) middle.objects new.objects) c.in_ok-recovered.ensures.list.list.uuid_is
     c.in-Err.ensures.some in
-    subst (RefusesAlone Tells c.args.volume.uuid c.args.volume.geometry c.args.volume.epoch
-    (MayRemovePast Tells (expected_of c.args.volume.uuid c.args.volume.geometry)) old.objects new.objects) (sym c.into.ensures)
+    subst (RefusesAlone Tells c.args.volume.uuid c.args.volume.geometry c.args.volume.chain c.args.volume.epoch
+    (MayRemovePast Tells (expected_of c.args.volume.uuid c.args.volume.geometry
+    (length c.args.volume.chain))) old.objects new.objects) (sym c.into.ensures)
     (record {
       why = λ tells.
-          why_lost_too error c.args.volume.uuid c.args.volume.geometry c.args.volume.epoch old.objects
-          (why_faulted error c.args.volume.uuid c.args.volume.geometry old.objects fault);
+          why_lost_too error c.args.volume.uuid c.args.volume.geometry c.args.volume.chain c.args.volume.epoch old.objects
+          (why_faulted error c.args.volume.uuid c.args.volume.geometry c.args.volume.chain old.objects fault);
       no_refusal = λ tells plain number stored. faults_refuse_none error fault;
       store = λ none. absurd (none fault);
       some =
-          may_leave_less Tells c.args.volume.uuid c.args.volume.geometry last old.objects new.objects
-          (λ tells. last_landed c.args.volume.uuid c.args.volume.geometry old.objects list c.in_ok-recovered.recovered.checkpoint
+          may_leave_less Tells c.args.volume.uuid c.args.volume.geometry c.args.volume.chain last old.objects new.objects
+          (λ tells. last_landed c.args.volume.uuid c.args.volume.geometry c.args.volume.chain old.objects list
+          c.in_ok-recovered.recovered.checkpoint
           (list_low g (goal.at.returns-in-Err-clause-err g c).In_default).last (c.in_ok-recovered.ensures.told tells))
           (becomes_from (Removes (IsPastOf c.args.volume.uuid last)) old.objects middle.objects new.objects
           (same_objects old middle c.in_ok-recovered.ensures.unchanged) some);
@@ -145,8 +151,8 @@ returns-clause-ok g c =
     let low = list_low g at.In_default in
     let numbers = c.in_default.ensures.none in
     let greatest : c.greatest_number.result < max_number = numbers 1 0 (omega arith) in
-    subst (RecoversAlone (TellsBytes g.S.Receipt.Receipt.state) c.args.volume.uuid c.args.volume.geometry c.args.volume.epoch
-    told)
+    subst (RecoversAlone (TellsBytes g.S.Receipt.Receipt.state) c.args.volume.uuid c.args.volume.geometry c.args.volume.chain
+    c.args.volume.epoch told)
     (sym c.into_log.ensures)
     (record {
       checkpoint = recovered.checkpoint;
@@ -155,7 +161,7 @@ returns-clause-ok g c =
       told = c.in_ok-recovered.ensures.told;
       passes = λ tells. record {
         good =
-            good_up_to c.args.volume.uuid c.args.volume.geometry told list recovered.checkpoint low.last
+            good_up_to c.args.volume.uuid c.args.volume.geometry c.args.volume.chain told list recovered.checkpoint low.last
             c.in_ok-recovered.ensures.list
             (c.in_ok-recovered.ensures.told tells);
         greatest = c.greatest_number.result;

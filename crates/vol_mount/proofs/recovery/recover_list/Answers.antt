@@ -16,8 +16,8 @@ returns-in_err-recovered g c =
       list = tt;
       has_names = tt;
       told = λ tells. tt;
-      why = λ tells. why_of error c.args.uuid c.args.geometry old.objects (failed.refused tells);
-      no_refusal = λ tells. no_refusal_of error c.args.uuid c.args.geometry old.objects (failed.refused tells);
+      why = λ tells. why_of error c.args.uuid c.args.geometry c.args.chain.now old.objects (failed.refused tells);
+      no_refusal = λ tells. no_refusal_of error c.args.uuid c.args.geometry c.args.chain.now old.objects (failed.refused tells);
       no_fault = no_device_fault error;
       unchanged = failed.unchanged;
       faults = subst (λ b. Counts b old.faults new.faults) (sym (same_fault error)) failed.faults;
@@ -34,11 +34,13 @@ returns-then-checkpoint-eq0 g c =
       has_names = tt;
       told = λ tells. tt;
       why = λ tells.
-          only_none c.args.uuid c.args.geometry told recovered.checkpoint none
-          (told_newest c.args.uuid c.args.geometry told recovered.log recovered.checkpoint (is.found.told tells));
+          only_none c.args.uuid c.args.geometry c.args.chain.now told recovered.checkpoint none
+          (told_newest c.args.uuid c.args.geometry c.args.chain.now told recovered.log recovered.checkpoint
+          (is.found.told tells));
       no_refusal = λ tells.
-          only_none_refuses c.args.uuid c.args.geometry told recovered.checkpoint c.requires.limits none
-          (told_newest c.args.uuid c.args.geometry told recovered.log recovered.checkpoint (is.found.told tells));
+          only_none_refuses c.args.uuid c.args.geometry c.args.chain.now told recovered.checkpoint c.requires.limits none
+          (told_newest c.args.uuid c.args.geometry c.args.chain.now told recovered.log recovered.checkpoint
+          (is.found.told tells));
       no_fault = refl;
       unchanged = is.unchanged;
       faults = is.faults;
@@ -60,7 +62,8 @@ returns g c =
       };
       has_names = is.found.names;
       told = λ tells.
-          recovered_from c.args.uuid c.args.geometry told recovered.log recovered.checkpoint (is.found.told tells)
+          recovered_from c.args.uuid c.args.geometry c.args.chain.now told recovered.log recovered.checkpoint
+          (is.found.told tells)
           (is.found.holds tells);
       why = λ tells. tt;
       no_refusal = λ tells. tt;

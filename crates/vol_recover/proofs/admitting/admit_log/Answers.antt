@@ -1,5 +1,6 @@
 use Rattle.std.proofs.Common.{inl, sym, subst}
-use Rattle.std.specs.Prelude.{◌⊎◌}
+use Rattle.std.specs.Prelude.{◌⊎◌, List}
+use Rattle.clone_chain.specs.declared.ancestor.Ancestor.{Ancestor}
 use Rattle.lsvd_base.specs.declared.geometry.Geometry.{Geometry}
 use Rattle.lsvd_fault.specs.Faults.{Counts}
 use Rattle.lsvd_objstore.specs.Store.{StoreState}
@@ -21,11 +22,12 @@ returns-then-not-is_within_limits-clause-why g c = λ tells.
     let old = g.S.Store.state c.args.store.now in
     let middle = g.S.Store.state c.describe.new.store in
     let geometry : Geometry = c.in-Ok.described.geometry in
+    let chain : List Ancestor = c.in-Ok.described.chain in
     let error = c.refuse_log.result in
-    is_not_admitted c.args.uuid c.args.log old.objects middle.objects geometry c.in-Ok.described.epoch error
+    is_not_admitted c.args.uuid c.args.log old.objects middle.objects geometry chain c.in-Ok.described.epoch error
     c.in-Ok.ensures.log (c.in-Ok.ensures.told tells) (sym c.if-not-is_within_limits.ensures)
     (counted_objects old middle c.in-Ok.ensures.unchanged)
-    (subst (λ u. IsUnfitting u geometry middle.objects error ⊎ IsWhyNotStored u geometry middle.objects error)
+    (subst (λ u. IsUnfitting u geometry chain middle.objects error ⊎ IsWhyNotStored u geometry chain middle.objects error)
     c.in-Ok.ensures.uuid (c.refuse_log.ensures.why tells))
 
 pub returns-then-not-is_within_limits-clause-unchanged : goal.returns-then-not-is_within_limits-clause-unchanged
@@ -46,4 +48,5 @@ returns-then-not-is_within_limits-clause-faults g c =
 pub returns-clause-admitted : goal.returns-clause-admitted
 returns-clause-admitted g c = λ tells.
     is_admitted c.args.uuid c.args.log (g.S.Store.state c.args.store.now).objects c.in-Ok.described.geometry
-    c.in-Ok.described.epoch c.in-Ok.ensures.log (c.in-Ok.ensures.told tells) (sym c.if-not-is_within_limits.ensures)
+    c.in-Ok.described.chain c.in-Ok.described.epoch c.in-Ok.ensures.log (c.in-Ok.ensures.told tells)
+    (sym c.if-not-is_within_limits.ensures)

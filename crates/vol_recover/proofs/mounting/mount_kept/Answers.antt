@@ -1,5 +1,6 @@
 use Rattle.std.proofs.Common.{inl, inr, refl, sym, ◌∙◌, subst}
-use Rattle.std.specs.Prelude.{◌≡◌, ◌⊎◌, false}
+use Rattle.std.specs.Prelude.{◌≡◌, ◌⊎◌, false, List}
+use Rattle.clone_chain.specs.declared.ancestor.Ancestor.{Ancestor}
 use Rattle.lsvd_base.specs.declared.geometry.Geometry.{Geometry}
 use Rattle.lsvd_fault.specs.Faults.{Counts}
 use Rattle.lsvd_objstore.specs.Store.{StoreState}
@@ -30,7 +31,7 @@ returns-in-Err g c =
             record {
               why = none.why;
               no_refusal = λ tells.
-                  subst (λ log. OfVolume c.args.uuid log old.objects (λ geometry epoch. refuses error ≡ false))
+                  subst (λ log. OfVolume c.args.uuid log old.objects (λ geometry chain epoch. refuses error ≡ false))
                   c.log_sectors.ensures (none.no_refusal tells);
             },
             record {
@@ -47,7 +48,8 @@ returns-in-Err g c =
 
 described : (g : given.Over) (c : In-Ok g)
     → IsDescribed (TellsBytes g.S.Receipt.Receipt.state) c.args.uuid (log_of (g.D.Disk.state c.args.disk).size)
-    (g.S.Store.state c.args.store.now).objects c.in-Ok.described.geometry c.in-Ok.described.epoch
+    (g.S.Store.state c.args.store.now).objects c.in-Ok.described.geometry c.in-Ok.described.chain
+    c.in-Ok.described.epoch
 described g c =
     let objects = (g.S.Store.state c.args.store.now).objects in
     let geometry : Geometry = c.in-Ok.described.geometry in
@@ -55,7 +57,8 @@ described g c =
       log_is = c.in-Ok.ensures.log ∙ c.log_sectors.ensures;
       says = c.in-Ok.ensures.told;
       same = λ tells.
-          subst (λ log. IsTheVolume c.args.uuid log objects geometry c.in-Ok.described.epoch) c.log_sectors.ensures
+          subst (λ log. IsTheVolume c.args.uuid log objects geometry c.in-Ok.described.chain c.in-Ok.described.epoch)
+          c.log_sectors.ensures
           (c.in-Ok.ensures.same tells);
     }
 
@@ -65,6 +68,7 @@ returns-then-not-is_within_limits g c =
     let middle = g.S.Store.state c.describe.new.store in
     let new = g.S.Store.state c.refuse_log-error.new.store in
     let geometry : Geometry = c.in-Ok.described.geometry in
+    let chain : List Ancestor = c.in-Ok.described.chain in
     let error = c.refuse_log-error.result in
     let is = c.refuse_log-error.ensures in
     let same = same_store old middle c.in-Ok.ensures.unchanged c.in-Ok.ensures.faults in
@@ -73,15 +77,17 @@ returns-then-not-is_within_limits g c =
       is =
           inr (
             geometry,
+            chain,
             c.in-Ok.described.epoch,
             described g (goal.at.returns-then-not-is_within_limits g c).In-Ok,
             inl (
               sym c.if-not-is_within_limits.ensures,
               (
                 λ tells.
-                    subst (λ (s : StoreState). IsUnfitting c.args.uuid geometry s.objects error
-                    ⊎ IsWhyNotStored c.args.uuid geometry s.objects error) same
-                    (subst (λ u. IsUnfitting u geometry middle.objects error ⊎ IsWhyNotStored u geometry middle.objects error)
+                    subst (λ (s : StoreState). IsUnfitting c.args.uuid geometry chain s.objects error
+                    ⊎ IsWhyNotStored c.args.uuid geometry chain s.objects error) same
+                    (subst (λ u. IsUnfitting u geometry chain middle.objects error
+                    ⊎ IsWhyNotStored u geometry chain middle.objects error)
                     c.in-Ok.ensures.uuid (is.why tells)),
                 record {
                   device = refl;
@@ -102,20 +108,22 @@ returns g c =
     let middle = g.S.Store.state c.describe.new.store in
     let new = g.S.Store.state c.mount_with_cache.new.store in
     let geometry : Geometry = c.in-Ok.described.geometry in
+    let chain : List Ancestor = c.in-Ok.described.chain in
     let epoch = c.in-Ok.described.epoch in
     let same = same_store old middle c.in-Ok.ensures.unchanged c.in-Ok.ensures.faults in
     record {
       is =
           inr (
             geometry,
+            chain,
             epoch,
             described g (goal.at.returns g c).In-Ok,
             inr (
               sym c.if-not-is_within_limits.ensures,
               subst (λ s. MountsWithCache g.D.Disk.state (TellsBytes g.S.Receipt.Receipt.state) (owner_with c.args.uuid epoch)
-                  geometry (g.D.Disk.state c.args.disk) s new c.mount_with_cache.result) same
+                  geometry chain (g.D.Disk.state c.args.disk) s new c.mount_with_cache.result) same
                   (subst (λ u. MountsWithCache g.D.Disk.state (TellsBytes g.S.Receipt.Receipt.state) (owner_with u epoch)
-                  geometry (g.D.Disk.state c.args.disk) middle new c.mount_with_cache.result) c.in-Ok.ensures.uuid
+                  geometry chain (g.D.Disk.state c.args.disk) middle new c.mount_with_cache.result) c.in-Ok.ensures.uuid
                   c.mount_with_cache.ensures),
             ),
           );

@@ -52,6 +52,7 @@ returns-clause-settled g c =
       sealed = e.sealed ∙ (made.sealed ∙ none);
       receipts = e.receipts ∙ ap (λ (list : List NumberedReceipt). list ++ own ∷ []) made.receipts;
       removal = e.removal;
+      inherited = e.inherited;
       maps = settles_from (c.self.inside.frontier + 1) c.len-size.result _ c.args.end c.args.rows c.self.inside.maps
           c.make_room.new.maps c.settle_sealed.new.self.maps c.requires.no_checkpoint c.len-size.ensures made.places e.maps;
     })

@@ -17,7 +17,8 @@ write_map-requires-clause-fit g c k =
     let same = ap (λ (q : QueueState). sealed_at q k) (sym c.self.view_is)
     ∙ (stays_settled c.self.inside.frontier c.self.inside.sealed.items (settled_at c.self.inside.maps k) k none
     ∙ ap (λ (m : MapState ObjectPlace). place_at object_on m.rows k) (sym c.settled.ensures)) in
-    subst (λ place. IfSome place (PlaceFits c.args.expected.now.sectors (c.args.expected.now.number - 1) k)) same
+    let expected = c.args.expected.now in
+    subst (λ place. IfSome place (PlaceFits expected.sectors expected.ancestors (expected.number - 1) k)) same
     (c.requires.fit k)
 
 pub returns-then-self-eq0 : goal.returns-then-self-eq0

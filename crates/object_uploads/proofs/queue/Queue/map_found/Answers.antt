@@ -22,9 +22,10 @@ unmapped g c =
     let now = c.in_ok-map_sectors.ensures in
     let known = c.self.invariant.2 in
     let place = c.args.row.now.place in
-    let gains : MayGain place.number old.objects =
-    subst (λ (q : QueueState). MayGain place.number q.maps.objects) (sym c.self.view_is) c.requires.known in
-    let still : MayGain place.number middle.objects = rw e.rows (gains.0, gains.1, gains.2) in
+    let gains : place.level ≡ 0 → MayGain place.number old.objects =
+    subst (λ (q : QueueState). place.level ≡ 0 → MayGain place.number q.maps.objects) (sym c.self.view_is) c.requires.known in
+    let still : place.level ≡ 0 → MayGain place.number middle.objects = λ own.
+    let gain = gains own in rw e.rows (gain.0, gain.1, gain.2) in
     let counted : IsCounted middle.settled.rows middle.objects =
     record { live = rw (e.rows, e.settled_rows) known.counted.live; known = rw (e.rows, e.settled_rows) known.counted.known } in
     unmapped_mapped c.args.row.now.lba c.args.row.now.sectors place middle c.map_sectors.new.self still counted now.objects

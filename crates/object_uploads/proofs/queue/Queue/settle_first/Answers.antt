@@ -36,6 +36,6 @@ returns g c =
     let e = c.settle_sealed.ensures in
     subst (λ (q : QueueState). IsSettledBy 1 q c.settle_sealed.new.self) c.self.view_is (
     settles_one _ _ c.unwrap-sealed.result c.pop_front.new.self.items (g.R.Receipt.state c.unwrap.result) parts given e.frontier
-    (e.end ∙ own.end) e.sealed e.receipts e.removal
+    (e.end ∙ own.end) e.sealed e.receipts e.removal e.inherited
     (settles_as next _ _ _ _ _ _ _ _ c.size-size.ensures own.rows own.end e.maps)
     )

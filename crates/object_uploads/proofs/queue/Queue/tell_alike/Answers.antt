@@ -1,6 +1,6 @@
 use Rattle.std.proofs.Common.{true, subst}
 use Rattle.object_uploads.specs.Image.{TellAlike}
-use Rattle.object_uploads.proofs.TellLemmas.{all_tell, sealed_tell}
+use Rattle.object_uploads.proofs.TellLemmas.{all_tell, inherited_tell, sealed_tell}
 use Rattle.object_uploads.proofs.queue.Queue.tell_alike.Goals as goal
 
 pub returns-clause-alike : goal.returns-clause-alike
@@ -11,6 +11,7 @@ returns-clause-alike g c =
     subst (TellAlike tells) c.self.view_is
     (record {
       known = all_tell state tells alike c.self.inside.receipts.list c.tell_alike.ensures;
+      inherited = inherited_tell state tells alike c.self.inside.inherited c.tell_alike-2.ensures;
       sealed = sealed_tell state tells alike c.self.inside.sealed.items c.self.invariant.7;
     })
 
@@ -20,5 +21,6 @@ returns-clause-told g c told =
     subst (TellAlike true) c.self.view_is
     (record {
       known = all_tell state true told c.self.inside.receipts.list c.tell_alike.ensures;
+      inherited = inherited_tell state true told c.self.inside.inherited c.tell_alike-2.ensures;
       sealed = sealed_tell state true told c.self.inside.sealed.items c.self.invariant.7;
     })

@@ -12,7 +12,9 @@ invariant_of-self g c =
     let receipt = g.R.Receipt.state c.args.receipt in
     let named = subst (λ (u : UploadsState). receipt.name ≡ numbered_name u.uuid c.args.number) (sym c.self.view_is)
     c.requires.named in
-    let same = same_places own.uuid own.sectors own.window own.queue new c.self.invariant e.rest c.add_found.result e.settled
+    let same = same_places own.uuid own.sectors own.ancestors own.window own.queue new c.self.invariant e.rest c.add_found.result
+    e.settled
     e.same_rows e.checkpoint in
-    found_more own.uuid own.sectors own.window own.queue new c.self.invariant e.rest c.add_found.result c.args.number receipt
+    found_more own.uuid own.sectors own.ancestors own.window own.queue new c.self.invariant e.rest c.add_found.result
+    c.args.number receipt
     named e.receipts e.settled e.same same e.known

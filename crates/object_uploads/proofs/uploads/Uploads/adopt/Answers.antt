@@ -10,8 +10,9 @@ pub invariant_of-self : goal.invariant_of-self
 invariant_of-self g c =
     let own = c.self.inside in
     let e = c.in_err-adopt.ensures in
-    uploads_same own.uuid own.sectors own.window own.queue c.adopt.new.self c.self.invariant e.same.frontier e.sealed
-    e.same.receipts e.same.removal e.same.places
+    uploads_same own.uuid own.sectors own.ancestors own.window own.queue c.adopt.new.self c.self.invariant e.same.frontier
+    e.sealed
+    e.same.receipts e.same.removal e.same.inherited e.same.places
 
 pub invariant_of-self-2 : goal.invariant_of-self-2
 invariant_of-self-2 g c =
@@ -23,6 +24,6 @@ invariant_of-self-2 g c =
     (sym c.self.view_is) c.requires.named in
     let same : own.window.last + 1 ≡ own.queue.frontier + 1 = omega (arith, c.self.invariant.last, ap length none) in
     let named = is_next ∙ ap (numbered_name own.uuid) same in
-    uploads_adopted own.uuid own.sectors own.window _ own.queue c.adopt.new.self c.args.rows c.args.end
+    uploads_adopted own.uuid own.sectors own.ancestors own.window _ own.queue c.adopt.new.self c.args.rows c.args.end
     (g.R.Receipt.state c.args.receipt) c.self.invariant fit named
     c.in_ok-adopt.ensures.settled c.frontier.ensures.known (c.new-self-inside.ensures ∙ ap at c.frontier.ensures.is)

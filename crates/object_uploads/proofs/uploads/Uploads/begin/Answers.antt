@@ -8,14 +8,14 @@ use Rattle.object_uploads.proofs.uploads.Uploads.begin.Given as given
 use Rattle.object_uploads.proofs.uploads.Uploads.begin.Goals as goal
 
 order : (g : given.Over) (c : goal.After-begin g)
-    → IsUploads (whole c.self.inside.uuid c.self.inside.sectors c.begin.new.self c.self.inside.window)
+    → IsUploads (whole c.self.inside.uuid c.self.inside.sectors c.self.inside.ancestors c.begin.new.self c.self.inside.window)
 order g c =
     let own = c.self.inside in
     let e = c.begin.ensures in
     let receipt = g.R.Receipt.state c.args.receipt in
     let named = subst (λ (u : UploadsState). receipt.name ≡ numbered_name u.uuid u.queue.frontier) (sym c.self.view_is)
     c.requires.named in
-    found_more own.uuid own.sectors own.window own.queue c.begin.new.self c.self.invariant e.rest c.begin.result
+    found_more own.uuid own.sectors own.ancestors own.window own.queue c.begin.new.self c.self.invariant e.rest c.begin.result
     own.queue.frontier receipt named e.receipts e.settled e.same e.same_objects e.known
 
 pub invariant_of-self : goal.invariant_of-self

@@ -8,11 +8,11 @@ use Rattle.object_uploads.proofs.uploads.Uploads.end_plan.Given as given
 use Rattle.object_uploads.proofs.uploads.Uploads.end_plan.Goals as goal
 
 order : (g : given.Over) (c : goal.After-mark g)
-    → IsUploads (whole c.self.inside.uuid c.self.inside.sectors c.mark.new.self c.self.inside.window)
+    → IsUploads (whole c.self.inside.uuid c.self.inside.sectors c.self.inside.ancestors c.mark.new.self c.self.inside.window)
 order g c =
     let own = c.self.inside in
     let numbers = numbers_of (all_seen g.R.Receipt.state c.sources.result.now) in
-    rw c.mark.ensures (uploads_marked false numbers own.uuid own.sectors own.window own.queue c.self.invariant)
+    rw c.mark.ensures (uploads_marked false numbers own.uuid own.sectors own.ancestors own.window own.queue c.self.invariant)
 
 pub invariant_of-self : goal.invariant_of-self
 invariant_of-self g c = order g c
@@ -20,7 +20,7 @@ invariant_of-self g c = order g c
 pub returns-clause-ended : goal.returns-clause-ended
 returns-clause-ended g c =
     let own = c.self.inside in
-    ap (λ queue. whole own.uuid own.sectors queue own.window)
+    ap (λ queue. whole own.uuid own.sectors own.ancestors queue own.window)
     (c.mark.ensures ∙ ap (λ (sources : List SourceState). marked_in false (numbers_of sources) own.queue)
     c.sources.ensures.sources)
     ∙ ap (with_copied_all false (numbers_of c.args.plan.now.sources)) c.self.view_is

@@ -15,7 +15,7 @@ acknowledge-requires g c =
     inside c.in-Some.index c.self.inside.queue.sealed false opened
 
 stays : (g : given.Over) (c : goal.After-frontier g)
-    → IsUploads (whole c.self.inside.uuid c.self.inside.sectors c.settle.new.self c.ack.new.self)
+    → IsUploads (whole c.self.inside.uuid c.self.inside.sectors c.self.inside.ancestors c.settle.new.self c.ack.new.self)
 stays g c =
     let number = c.name.result.now.number in
     let own = c.self.inside in
@@ -23,7 +23,8 @@ stays g c =
     record { index_is = c.in-Some.ensures.index; past = c.in-Some.ensures.past; opened = c.in-Some.ensures.there } in
     let started = c.ack.ensures.started ∙ subst (λ (u : UploadsState). is_started number u.window.objects ≡ true)
     (sym c.self.view_is) c.in-Some.ensures.out.started in
-    uploads_done own.uuid own.sectors own.window c.ack.new.self own.queue c.acknowledge.new.self c.settle.new.self number
+    uploads_done own.uuid own.sectors own.ancestors own.window c.ack.new.self own.queue c.acknowledge.new.self c.settle.new.self
+    number
     c.in-Some.index c.settle.ensures.settled.0 (g.R.Receipt.state c.args.receipt)
     c.self.invariant (subst (λ (u : UploadsState). IsOpenIn u.queue number c.in-Some.index false) (sym c.self.view_is) in_)
     (search rules) c.acknowledge.ensures

@@ -18,7 +18,8 @@ invariant_of-self g c =
     let own = c.self.inside in
     let in_ : IsOpenIn c.args.self.now.queue number c.in-Some.index false =
     record { index_is = c.in-Some.ensures.index; past = c.in-Some.ensures.past; opened = c.in-Some.ensures.there } in
-    uploads_failed own.uuid own.sectors own.window c.fail.new.self own.queue c.give_spare.new.self number c.in-Some.index
+    uploads_failed own.uuid own.sectors own.ancestors own.window c.fail.new.self own.queue c.give_spare.new.self number
+    c.in-Some.index
     c.self.invariant (subst (λ (u : UploadsState). IsOpenIn u.queue number c.in-Some.index false) (sym c.self.view_is) in_)
     c.give_spare.ensures
     (c.fail.ensures.ready (c.fail.ensures.started ∙ subst (λ (u : UploadsState). is_started number u.window.objects ≡ true)

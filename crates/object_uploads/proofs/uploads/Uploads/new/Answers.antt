@@ -6,11 +6,12 @@ use Rattle.object_uploads.proofs.uploads.Uploads.new.Given as given
 use Rattle.object_uploads.proofs.uploads.Uploads.new.Goals as goal
 
 order : (g : given.Over) (c : goal.After-new-2 g)
-    → IsUploads (whole c.args.uuid c.args.sectors c.new.result c.new-2.result)
+    → IsUploads (whole c.args.uuid c.args.sectors c.args.ancestors c.new.result c.new-2.result)
 order g c =
     let e = c.new.ensures in
     let at : ℕ → WindowState = λ last. record { last = last; objects = [] } in
-    uploads_begin c.args.uuid c.args.sectors c.new.result c.new-2.result c.requires e.sealed e.receipts e.removal e.settled
+    uploads_begin c.args.uuid c.args.sectors c.args.ancestors c.new.result c.new-2.result c.requires.sectors c.requires.ancestors
+    e.sealed e.receipts e.removal e.inherited e.settled
     e.objects e.checkpoint (c.new-2.ensures ∙ ap at (sym e.frontier))
 
 pub invariant_of-result : goal.invariant_of-result

@@ -15,13 +15,15 @@ invariant_of-self-2 g c =
     let fit = subst (λ (u : UploadsState). FitObject u.sectors c.args.rows.items) (sym c.self.view_is) c.requires.fit in
     let e = c.in_ok-push.ensures in
     rw (entered_, c.last-number.ensures) (
-    uploads_sealed own.uuid own.sectors own.window own.queue c.push.new.self c.args.object (Data c.args.rows) c.args.end
-    c.self.invariant fit e.sealed e.frontier e.receipts e.removal e.places
+    uploads_sealed own.uuid own.sectors own.ancestors own.window own.queue c.push.new.self c.args.object (Data c.args.rows)
+    c.args.end
+    c.self.invariant fit e.sealed e.frontier e.receipts e.removal e.inherited e.places
     )
 
 pub invariant_of-self : goal.invariant_of-self
 invariant_of-self g c =
     let own = c.self.inside in
     let e = c.in_err-push.ensures in
-    uploads_same own.uuid own.sectors own.window own.queue c.push.new.self c.self.invariant e.frontier e.same e.receipts
-    e.removal e.places
+    uploads_same own.uuid own.sectors own.ancestors own.window own.queue c.push.new.self c.self.invariant e.frontier e.same
+    e.receipts
+    e.removal e.inherited e.places

@@ -12,18 +12,19 @@ use Rattle.object_uploads.proofs.uploads.Uploads.seal_checkpoint.Goals as goal
 pub checkpoint-requires-clause-fit : goal.checkpoint-requires-clause-fit
 checkpoint-requires-clause-fit g c =
     let own = c.self.inside in
-    let fit = sealed_places_fit own.uuid own.sectors own.window own.queue c.self.invariant in
+    let fit = sealed_places_fit own.uuid own.sectors own.ancestors own.window own.queue c.self.invariant in
     let last : own.window.last + 1 - 1 ≡ own.window.last = omega arith in
-    let now = subst (λ n. PlacesFitIn own.sectors n (sealed_at own.queue)) (sym last) fit in
-    subst (λ (e : Expected). PlacesFitIn e.sectors (e.number - 1) (sealed_at own.queue))
+    let now = subst (λ n. PlacesFitIn own.sectors own.ancestors n (sealed_at own.queue)) (sym last) fit in
+    subst (λ (e : Expected). PlacesFitIn e.sectors e.ancestors (e.number - 1) (sealed_at own.queue))
     (ap expected_next c.self.view_is ∙ sym c.expected_next-expected.ensures) now
 
 pub invariant_of-self : goal.invariant_of-self
 invariant_of-self g c =
     let own = c.self.inside in
     let e = c.in_err-push.ensures in
-    uploads_same own.uuid own.sectors own.window own.queue c.push.new.self c.self.invariant e.frontier e.same e.receipts
-    e.removal e.places
+    uploads_same own.uuid own.sectors own.ancestors own.window own.queue c.push.new.self c.self.invariant e.frontier e.same
+    e.receipts
+    e.removal e.inherited e.places
 
 pub invariant_of-self-2 : goal.invariant_of-self-2
 invariant_of-self-2 g c =
@@ -35,6 +36,7 @@ invariant_of-self-2 g c =
     ap (λ (e : Expected). e.number) (c.expected_next-expected.ensures ∙ sym (ap expected_next c.self.view_is)) in
     let e = c.in_ok-push.ensures in
     rw (entered_, number) (
-    uploads_sealed own.uuid own.sectors own.window own.queue c.push.new.self _ Checkpoint _ c.self.invariant tt e.sealed
-    e.frontier e.receipts e.removal e.places
+    uploads_sealed own.uuid own.sectors own.ancestors own.window own.queue c.push.new.self _ Checkpoint _ c.self.invariant tt
+    e.sealed
+    e.frontier e.receipts e.removal e.inherited e.places
     )

@@ -17,7 +17,7 @@ invariant_of-self g c =
     } in
     let lowest = subst (λ (u : UploadsState). Some number ≡ lowest_ready u.window.objects) (sym c.self.view_is)
     c.in_ok-number.ensures.lowest in
-    uploads_taken own.uuid own.sectors own.window c.take.new.self own.queue c.take_spare-object.new.self number
+    uploads_taken own.uuid own.sectors own.ancestors own.window c.take.new.self own.queue c.take_spare-object.new.self number
     c.in_ok-number.index c.self.invariant
     (subst (λ (u : UploadsState). IsOpenIn u.queue number c.in_ok-number.index true) (sym c.self.view_is) in_)
     c.take_spare-object.ensures.taken (sym lowest)

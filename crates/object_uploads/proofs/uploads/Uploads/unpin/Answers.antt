@@ -8,5 +8,5 @@ pub invariant_of-self : goal.invariant_of-self
 invariant_of-self g c =
     let own = c.self.inside in
     let e = c.unpin.ensures in
-    uploads_changed own.uuid own.sectors own.window own.queue c.unpin.new.self c.self.invariant e.rest e.known
+    uploads_changed own.uuid own.sectors own.ancestors own.window own.queue c.unpin.new.self c.self.invariant e.rest e.known
     (subst (All (IsNamed own.uuid)) (sym e.receipts) c.self.invariant.known.named)

@@ -48,7 +48,7 @@ returns-clause-step g c =
       step = steps;
       back = tt;
       plan = tt;
-      sizes = record { geometry = refl; uuid = refl };
+      sizes = record { geometry = refl; uuid = refl; ancestors = refl };
       numbers = numbers_grow state events.Flush reply volume (with_log log volume) is.plain is.shows steps grow;
       stops = flushing_keeps events.Flush refl volume log _ end ready.order.uploads ready.order.on_disk
           end_is c.commit.ensures;

@@ -193,10 +193,10 @@ returns-clause-step g c =
       step = steps g c;
       back = tt;
       plan = has_its_bytes g c;
-      sizes = record { geometry = geometry; uuid = left.uuid };
+      sizes = record { geometry = geometry; uuid = left.uuid; ancestors = left.ancestors };
       numbers = grow g c;
       stops = still_keeps (events.Look c.args.lba c.args.sectors) volume new
-          (record { uuid = left.uuid; geometry = geometry }) (is_still g c);
+          (record { uuid = left.uuid; ancestors = left.ancestors; geometry = geometry }) (is_still g c);
       copying = refl;
       faults = search rules;
       bytes = same_bytes volume new left.sealed left.frontier;

@@ -2,7 +2,7 @@ use Rattle.plain_disk.proofs.OpeningLemmas.{created_opens, events_keep_opening, 
 use Rattle.plain_disk.proofs.OpeningLemmas.{owners_are_past, checkpoint_goes_on}
 use Rattle.plain_disk.proofs.MarkedLemmas.{created_seals, events_seal, stops_seal, mounts_seal}
 use Rattle.plain_disk.proofs.SealedLemmas.{mapped_have_landed}
-use Rattle.plain_disk.proofs.found_laws.a_volume_is_followed_from_its_creation_on.Goals as goal
+use Rattle.plain_disk.proofs.found_laws.a_volume_is_followed_from_its_beginning_on.Goals as goal
 
 pub returns : goal.returns
 returns c = record {

@@ -5,11 +5,12 @@ use Rattle.std.proofs.lemmas.List.{take_all}
 use Rattle.lsvd_objstore.specs.Store.{StoreState}
 use Rattle.stopped_volume.specs.Expected.{expected_alone}
 use Rattle.super_recovery.proofs.Results.{passed_on, same_store, told_both}
+use Rattle.vol_check.specs.declared.report.ObjectOfLevel.{ObjectOfLevel}
 use Rattle.vol_check.specs.Steps.{AddsKept, NamesAll, RefusesKept, RefusesNamed}
 use Rattle.vol_check.proofs.HeldLemmas.{told_all, no_rows_given}
 use Rattle.vol_check.proofs.NamedLemmas.{names_begin, names_more, names_refused}
 use Rattle.vol_check.proofs.SetLemmas.{none_in}
-use Rattle.vol_check.proofs.naming.named_numbers.Goals as goal
+use Rattle.vol_check.proofs.naming.named_objects.Goals as goal
 
 pub returns-in_err-add_rows-clause-refused : goal.returns-in_err-add_rows-clause-refused
 returns-in_err-add_rows-clause-refused g c = λ tells.
@@ -49,8 +50,8 @@ loop-number-preserved g c =
     let index = c.loop-number.number-index in
     let next : ℕ = get_or holds index 0 in
     let before = c.loop-number.invariant in
-    let old : BTreeSet ℕ = c.loop-number.named in
-    let new : BTreeSet ℕ = c.add_kept.new.named in
+    let old : BTreeSet ObjectOfLevel = c.loop-number.named in
+    let new : BTreeSet ObjectOfLevel = c.add_kept.new.named in
     let done = c.in_ok-add_kept.ensures in
     let after = same_store (g.S.Store.state c.loop-number.store) (g.S.Store.state c.add_kept.new.store) done.unchanged
     done.faults in
@@ -75,7 +76,7 @@ returns-in_err-add_kept-clause-refused g c = λ tells.
     let index = c.loop-number.number-index in
     let next : ℕ = get_or holds index 0 in
     let before = c.loop-number.invariant in
-    let old : BTreeSet ℕ = c.loop-number.named in
+    let old : BTreeSet ObjectOfLevel = c.loop-number.named in
     let error = c.in_err-add_kept.field-0.0 in
     passed_on (λ e. IfSome told (λ objects. RefusesNamed volume objects holds e)) c.from_residual-in_err-add_kept.result error
     c.from_residual-in_err-add_kept.ensures.1

@@ -2,7 +2,7 @@ use Rattle.std.proofs.Common.{◌≡◌, take}
 use Rattle.std.specs.Prelude.{IfSome}
 use Rattle.stopped_volume.specs.Store.{TellsBytes}
 use Rattle.vol_check.specs.Steps.{NamesAll}
-use Rattle.vol_check.proofs.naming.named_numbers.Given as goal
+use Rattle.vol_check.proofs.naming.named_objects.Given as goal
 
 -- what the newest checkpoint and the holds so far name was added
 abbrev pub invariant-loop-number : goal.invariant-loop-number
